@@ -4,7 +4,11 @@
 mod boxed;
 mod list;
 mod memory;
+mod tables;
+mod value;
 
 pub use boxed::Boxed;
 pub use list::{Bytes, List};
 pub use memory::Memory;
+pub use tables::{AtomType, ConDecl, ConTable, DataDecl, Ty, TypeTable};
+pub use value::Value;
