@@ -1,0 +1,2 @@
+//! Programs, their steps and the names of their goals.
+#![tactic(auto)]
