@@ -1,0 +1,13 @@
+pub mod Numbers
+pub mod Words
+pub mod Fronts
+pub mod Shapes
+pub mod Symbols
+pub mod Strings
+pub mod Digits
+pub mod Sound
+pub mod Complete
+pub mod Unique
+pub mod Moving
+pub mod Reading
+pub mod Places
