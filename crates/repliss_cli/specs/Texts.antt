@@ -1,0 +1,57 @@
+-- The text of a report.
+use Rattle.std.specs.Prelude.{ℕ, ◌==◌, length, List, [], ◌∷◌, ◌++◌, flat_map, codes, decimal, if◌then◌else◌}
+use Rattle.rp_span.specs.declared.Pos.{Pos}
+use Rattle.repliss_cli.specs.declared.report.GoalLine.{GoalLine}
+use Rattle.repliss_cli.specs.declared.report.Status.{Status}
+use Rattle.repliss_cli.specs.declared.report.Status.TheVariants.{Fine, Found, Refused, ReadFault, WriteFault, NoMemory}
+use Rattle.repliss_cli.specs.declared.report.Report.{Report}
+use Rattle.repliss_cli.specs.declared.report.Report.TheVariants.{Verified, Unproved, Usage, ProgramBytes, NotYet}
+
+-- the end of a line that counts goals: `s` is left out after 1 alone
+abbrev pub goals_end : ℕ → List ℕ
+goals_end n = if n == 1 then codes " goal\n" else codes " goals\n"
+
+abbrev pub choice_text : ℕ → List ℕ
+choice_text choice = codes "." ++ decimal choice
+
+-- a path's choices, or `-` where there is none
+abbrev pub path_text : List ℕ → List ℕ
+path_text [] = codes "-"
+path_text (first ∷ rest) = decimal first ++ flat_map choice_text rest
+
+abbrev pub place_text : Pos → List ℕ
+place_text pos = codes " at " ++ (decimal pos.line ++ (codes ":" ++ (decimal pos.col ++ codes "\n")))
+
+abbrev pub goal_line : GoalLine → List ℕ
+goal_line g = codes "goal " ++ (decimal g.goal ++ codes " assert ") ++ g.proc ++ codes " path " ++ path_text g.path ++ place_text g.at
+
+abbrev pub verified_line : ℕ → List ℕ
+verified_line goals = codes "verified: " ++ (decimal goals ++ goals_end goals)
+
+abbrev pub unproved_line : ℕ → ℕ → List ℕ
+unproved_line unproved goals = codes "unproved: " ++ (decimal unproved ++ (codes " of " ++ (decimal goals ++ goals_end goals)))
+
+-- the bytes of a report
+abbrev pub report_text : Report → List ℕ
+report_text (Verified goals) = verified_line goals
+report_text (Unproved goals list) = unproved_line (length list) goals ++ flat_map goal_line list
+report_text Usage = codes "refused: usage\n" ++ codes "usage: repliss verify FILE\n"
+report_text ProgramBytes = codes "refused: limit program bytes 262144\n"
+report_text NotYet = codes "refused: not yet\n"
+
+-- how the command ends that puts it
+abbrev pub status_of : Report → Status
+status_of (Verified goals) = Fine
+status_of (Unproved goals list) = Found
+status_of Usage = Refused
+status_of ProgramBytes = Refused
+status_of NotYet = Refused
+
+-- the number with which the process ends
+abbrev pub number_of : Status → ℕ
+number_of Fine = 0
+number_of Found = 1
+number_of Refused = 2
+number_of ReadFault = 3
+number_of WriteFault = 4
+number_of NoMemory = 5

@@ -1,0 +1,6 @@
+//! The program `repliss`.
+#![tactic(auto)]
+
+mod report;
+
+fn main() {}

@@ -1,0 +1,175 @@
+// Reports, their statuses and their lines.
+ghost use Rattle.std.specs.Prelude.{◌≡◌, ◌++◌, ◌∷◌, [], codes, decimal, flat_map, string_bytes, IfOk, OnOk};
+ghost use Rattle.repliss_cli.specs.Texts.{goal_line, choice_text, path_text, place_text, report_text, status_of, number_of, unproved_line, verified_line};
+
+use rp_span::Pos;
+use rp_value::{Bytes, List, Memory};
+use std::alloc::Global;
+
+/// How a command ends.
+#[derive(Clone, Copy, Debug, PartialEq, Eq)]
+pub enum Status {
+    Fine,
+    Found,
+    Refused,
+    ReadFault,
+    WriteFault,
+    NoMemory,
+}
+
+impl Status {
+    /// The number with which the process ends.
+    pub fn number(self) -> u8
+        ensures { result ≡ number_of self }
+    {
+        match self {
+            Status::Fine => 0,
+            Status::Found => 1,
+            Status::Refused => 2,
+            Status::ReadFault => 3,
+            Status::WriteFault => 4,
+            Status::NoMemory => 5,
+        }
+    }
+}
+
+/// An unproved goal: its number from 1, its procedure, the choices on its path, and where its statement stands.
+#[derive(Debug, Drop)]
+pub struct GoalLine {
+    pub goal: u32,
+    pub proc: Bytes,
+    pub path: List<u32>,
+    pub at: Pos,
+}
+
+/// What a command tells.
+#[derive(Debug, Drop)]
+pub enum Report {
+    Verified { goals: u32 },
+    Unproved { goals: u32, list: List<GoalLine> },
+    Usage,
+    ProgramBytes,
+    NotYet,
+}
+
+/// Adds text at the end of a line.
+fn add_text(line: &mut Vec<u8>, text: &str) -> Result<(), Memory>
+    ensures { OnOk result (line.new.items ≡ line.old.items ++ text.now) }
+{
+    line.extend_from_slice(text.as_bytes())?;
+    Ok(())
+}
+
+/// Adds a choice behind a point.
+fn add_choice(alloc: Global, line: &mut Vec<u8>, choice: u32) -> Result<(), Memory>
+    ensures { OnOk result (line.new.items ≡ line.old.items ++ choice_text choice) }
+{
+    add_text(line, &format!(in alloc; ".{choice}")?)
+}
+
+/// Adds further choices of a path, each behind a point.
+fn add_choices(alloc: Global, line: &mut Vec<u8>, choices: &[u32]) -> Result<(), Memory>
+    ensures { OnOk result (line.new.items ≡ line.old.items ++ flat_map choice_text choices.now) }
+{
+    for choice in choices {
+        add_choice(alloc, line, *choice)?;
+    }
+    Ok(())
+}
+
+/// Adds the first choice of a path.
+fn add_first(alloc: Global, line: &mut Vec<u8>, choice: u32) -> Result<(), Memory>
+    ensures { OnOk result (line.new.items ≡ line.old.items ++ decimal choice) }
+{
+    add_text(line, &format!(in alloc; "{choice}")?)
+}
+
+/// Adds the choices of a path, joined by points, or `-` where there is none.
+fn add_path(alloc: Global, line: &mut Vec<u8>, path: &[u32]) -> Result<(), Memory>
+    ensures { OnOk result (line.new.items ≡ line.old.items ++ path_text path.now) }
+{
+    let Some((first, rest)) = path.split_first() else {
+        return add_text(line, "-");
+    };
+    add_first(alloc, line, *first)?;
+    add_choices(alloc, line, rest)
+}
+
+/// The line of an unproved goal.
+fn line_of_goal(alloc: Global, goal: &GoalLine) -> Result<Vec<u8>, Memory>
+    ensures { IfOk result (λ line. line.items ≡ goal_line goal.now) }
+{
+    let number = goal.goal;
+    let line_number = goal.at.line;
+    let column = goal.at.col;
+    let mut line = format!(in alloc; "goal {number} assert ")?.into_bytes();
+    line.extend_from_slice(goal.proc.as_slice())?;
+    add_text(&mut line, " path ")?;
+    add_path(alloc, &mut line, goal.path.as_slice())?;
+    add_text(&mut line, &format!(in alloc; " at {line_number}:{column}\n")?)?;
+    Ok(line)
+}
+
+/// A report of one line.
+fn one(alloc: Global, text: String) -> Result<Vec<Vec<u8>>, Memory>
+    ensures { IfOk result (λ lines. flat_map (λ line. line.items) lines.items ≡ string_bytes text) }
+{
+    let mut lines = Vec::new(alloc);
+    lines.push(text.into_bytes())?;
+    Ok(lines)
+}
+
+/// Adds the lines of unproved goals.
+fn add_goals(alloc: Global, lines: &mut Vec<Vec<u8>>, goals: &[GoalLine]) -> Result<(), Memory>
+    ensures { OnOk result (flat_map (λ line. line.items) lines.new.items ≡ flat_map (λ line. line.items) lines.old.items ++ flat_map goal_line goals.now) }
+{
+    for goal in goals {
+        lines.push(line_of_goal(alloc, goal)?)?;
+    }
+    Ok(())
+}
+
+/// The first line of a report that names unproved goals.
+fn unproved_line(alloc: Global, unproved: usize, goals: u32) -> Result<String, Memory>
+    ensures { IfOk result (λ line. string_bytes line ≡ unproved_line unproved goals) }
+{
+    Ok(if goals == 1 {
+        format!(in alloc; "unproved: {unproved} of {goals} goal\n")?
+    } else {
+        format!(in alloc; "unproved: {unproved} of {goals} goals\n")?
+    })
+}
+
+fn verified_line(alloc: Global, goals: u32) -> Result<String, Memory>
+    ensures { IfOk result (λ line. string_bytes line ≡ verified_line goals) }
+{
+    Ok(if goals == 1 {
+        format!(in alloc; "verified: {goals} goal\n")?
+    } else {
+        format!(in alloc; "verified: {goals} goals\n")?
+    })
+}
+
+/// The lines of a report, each with its newline.
+pub fn lines(alloc: Global, report: &Report) -> Result<Vec<Vec<u8>>, Memory>
+    ensures { IfOk result (λ lines. flat_map (λ line. line.items) lines.items ≡ report_text report.now) }
+{
+    match report {
+        Report::Verified { goals } => one(alloc, verified_line(alloc, *goals)?),
+        Report::Unproved { goals, list } => {
+            let mut lines = one(alloc, unproved_line(alloc, list.len(), *goals)?)?;
+            add_goals(alloc, &mut lines, list.as_slice())?;
+            Ok(lines)
+        }
+        Report::Usage => {
+            let mut lines = one(alloc, format!(in alloc; "refused: usage\n")?)?;
+            lines.push(format!(in alloc; "usage: repliss verify FILE\n")?.into_bytes())?;
+            Ok(lines)
+        }
+        Report::ProgramBytes => one(
+            alloc,
+            format!(in alloc; "refused: limit program bytes 262144\n")?,
+        ),
+        Report::NotYet => one(alloc, format!(in alloc; "refused: not yet\n")?),
+    }
+}
