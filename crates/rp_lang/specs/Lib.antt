@@ -1,3 +1,4 @@
+pub mod Crdts
 pub mod Exprs
 pub mod Formulas
 pub mod Stmts

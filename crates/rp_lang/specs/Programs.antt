@@ -2,8 +2,18 @@
 use Rattle.std.specs.Prelude.{ℕ, List, Option}
 use Rattle.rp_span.specs.declared.Span.{Span}
 use Rattle.rp_value.specs.declared.tables.Ty.{Ty}
+use Rattle.rp_value.specs.declared.tables.TypeTable.{TypeTable}
+use Rattle.rp_value.specs.declared.tables.ConTable.{ConTable}
+use Rattle.rp_lang.specs.declared.op.OpDecl.{OpDecl}
+use Rattle.rp_lang.specs.declared.query.QueryDecl.{QueryDecl}
+use Rattle.rp_lang.specs.Crdts.{Cr}
 use Rattle.rp_lang.specs.Formulas.{Fo}
 use Rattle.rp_lang.specs.Stmts.{Sts}
+
+-- a replicated object
+pub record Rt : Type 0 where
+  pub name : List ℕ
+  pub crdt : Cr
 
 pub record Proc : Type 0 where
   pub name : List ℕ
@@ -22,7 +32,11 @@ pub record Inv : Type 0 where
   pub at : Span
   pub body : Fo
 
--- the parts of a program that the machine reads
 pub record Prog : Type 0 where
+  pub types : TypeTable
+  pub cons : ConTable
+  pub roots : List Rt
+  pub ops : List OpDecl
+  pub queries : List QueryDecl
   pub invs : List Inv
   pub procs : List Proc

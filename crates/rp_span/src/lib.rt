@@ -1,6 +1,10 @@
 //! Places in texts: bytes, lines and columns.
 #![tactic(auto)]
 
+mod text;
+
+pub use text::{Text, line_of};
+
 /// A place in a text for people to read: its line and its column, both from 1, and its byte, from 0.
 #[derive(Clone, Copy, Debug, PartialEq, Eq)]
 pub struct Pos {

@@ -1,0 +1,25 @@
+/// A limit on what is read, checked or run.
+#[derive(Clone, Copy, Debug, PartialEq, Eq)]
+pub enum LimitName {
+    ProgramBytes,
+    Depth,
+    Types,
+    ValueParts,
+    Roots,
+    Operations,
+    PathDepth,
+    Procedures,
+    Invariants,
+    Statements,
+    Quantifiers,
+    Nodes,
+    Paths,
+    Goals,
+    ScheduleBytes,
+    Universe,
+    Steps,
+    Calls,
+    Invocations,
+    Breadth,
+    Integer,
+}
