@@ -1,0 +1,2 @@
+//! Names, types and desugaring: which program a tree is.
+#![tactic(auto)]
