@@ -3,6 +3,11 @@
 #![tactic(auto)]
 
 pub mod laws;
+pub mod operator;
+pub mod terminal;
+
+pub use operator::{CallWord, CompareOp};
+pub use terminal::{Symbol, Word};
 
 use rp_span::Span;
 
