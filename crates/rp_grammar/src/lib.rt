@@ -7,9 +7,8 @@ pub mod operator;
 pub mod terminal;
 
 pub use operator::{CallWord, CompareOp};
-pub use terminal::{Symbol, Word};
-
 use rp_span::Span;
+pub use terminal::{Symbol, Word};
 
 /// What a token is.
 #[derive(Clone, Copy, Debug, PartialEq, Eq)]
