@@ -3,8 +3,12 @@
 #![tactic(auto)]
 
 pub mod laws;
+pub mod operator;
+pub mod terminal;
 
+pub use operator::{CallWord, CompareOp};
 use rp_span::Span;
+pub use terminal::{Symbol, Word};
 
 /// What a token is.
 #[derive(Clone, Copy, Debug, PartialEq, Eq)]
