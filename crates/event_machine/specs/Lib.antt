@@ -1,0 +1,6 @@
+pub mod Code
+pub mod Truth
+pub mod Machine
+pub mod Runs
+pub mod Goals
+pub mod Samples
