@@ -1,11 +1,14 @@
 -- The goals of a program: each assertion on each path.
-use Rattle.std.specs.Prelude.{◌≡◌, ℕ, ◌+◌, Bool, true, false, if◌then◌else◌, List, [], ◌∷◌, ◌++◌, length, map, All, Option, Some}
+use Rattle.std.specs.Prelude.{◌≡◌, ℕ, ◌+◌, Bool, true, false, if◌then◌else◌, List, [], ◌∷◌, ◌++◌, length, map, replicate, All, Option, Some}
 use Rattle.rp_span.specs.declared.Span.{Span}
+use Rattle.rp_value.specs.declared.tables.Ty.{Ty}
+use Rattle.rp_value.specs.declared.tables.Ty.TheVariants.{Datatype}
 use Rattle.rp_value.specs.Values.{Val}
 use Rattle.rp_lang.specs.Formulas.{Fo}
 use Rattle.rp_lang.specs.Programs.{Proc, Prog}
 use Rattle.event_machine.specs.Code.{Code, Done, Assert, Choose, codes}
 use Rattle.event_machine.specs.Truth.{truth, value_of}
+use Rattle.event_machine.specs.Machine.{Label, Invoke, Local}
 
 -- A condition that a path has decided, with its truth there.
 pub record Choice : Type 0 where
@@ -65,5 +68,17 @@ pub record Refutes (values : List Bool) (goal : Goal) : Type 0 where
   pub followed : All (IsAsChosen values) goal.choices
   pub broken : truth (slots_of values) goal.asserted ≡ false
 
-abbrev pub IsFalse : Goal → Type 0
-IsFalse goal = (values : List Bool) × Refutes values goal
+abbrev pub IsFalseGoal : Goal → Type 0
+IsFalseGoal goal = (values : List Bool) × Refutes values goal
+
+-- `Bool` is datatype 0
+abbrev pub IsBool : Ty → Type 0
+IsBool ty = ty ≡ Datatype 0
+
+-- every parameter is a truth value
+abbrev pub TakesTruthValues : Prog → Type 0
+TakesTruthValues p = All (λ q. All IsBool q.params) p.procs
+
+-- a false goal is named by the labels that show it: the invocation with the values, and Locals along the path
+abbrev pub refuting_labels : Goal → List Bool → ℕ → List Label
+refuting_labels goal values locals = Invoke goal.proc (map value_of values) ∷ replicate locals (Local 0)

@@ -146,14 +146,14 @@ refusals p s label =
     ∷ not_committed s label
     ∷ []
 
-abbrev pub first_of : List (Option Why) → Option Why
-first_of [] = None
-first_of (None ∷ others) = first_of others
-first_of (Some why ∷ others) = Some why
+abbrev pub first_why : List (Option Why) → Option Why
+first_why [] = None
+first_why (None ∷ others) = first_why others
+first_why (Some why ∷ others) = Some why
 
 -- the first that applies
 abbrev pub refusal : Prog → State → Label → Option Why
-refusal p s label = first_of (refusals p s label)
+refusal p s label = first_why (refusals p s label)
 
 -- ---- effects of labels that aren't refused
 
