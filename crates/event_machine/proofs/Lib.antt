@@ -3,3 +3,4 @@ pub mod OutcomeLemmas
 pub mod CodeLemmas
 pub mod SafeLemmas
 pub mod FalseLemmas
+pub mod TestLemmas

@@ -3,4 +3,5 @@ pub mod Truth
 pub mod Machine
 pub mod Runs
 pub mod Goals
+pub mod Tests
 pub mod Samples

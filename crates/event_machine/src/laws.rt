@@ -1,8 +1,9 @@
 // Laws of runs and of goals, for all programs.
-ghost use Rattle.std.specs.Prelude.{◌≡◌, ◌↔◌, ℕ, ◌+◌, ◌≤◌, Bool, List, All, Contains};
+ghost use Rattle.std.specs.Prelude.{◌≡◌, ◌↔◌, ℕ, ◌+◌, ◌≤◌, Bool, List, All, Contains, IsTrue};
 ghost use Rattle.rp_lang.specs.Programs.{Prog};
 ghost use Rattle.event_machine.specs.Machine.{Label, What};
 ghost use Rattle.event_machine.specs.Runs.{IsSafe, outcome, ViolatedAt};
+ghost use Rattle.event_machine.specs.Tests.{is_false};
 ghost use Rattle.event_machine.specs.Goals.{Goal, goals, Refutes, IsFalseGoal, TakesTruthValues, refuting_labels};
 
 /// A program is safe exactly where no list of labels, in no universe, ends in a violation.
@@ -21,4 +22,9 @@ pub fn false_goals_violate()
     ensures { (p : Prog) (goal : Goal) (values : List Bool) (universe : ℕ)
         → TakesTruthValues p → Contains (goals p) goal → Refutes values goal
         → (locals : ℕ) × (what : What) × (outcome p universe (refuting_labels goal values locals) ≡ ViolatedAt (locals + 1) what) }
+{}
+
+/// A goal is false exactly where the test of all values finds some.
+pub fn false_by_trying()
+    ensures { (goal : Goal) → IsTrue (is_false goal) ↔ IsFalseGoal goal }
 {}

@@ -4,5 +4,7 @@
 mod laws;
 mod samples;
 
-pub use laws::{false_goals_violate, safe_by_goals, safe_by_outcomes};
-pub use samples::{asserted_parameter, order_of_goals, refusals, rows_of_choices, two_invocations};
+pub use laws::{false_by_trying, false_goals_violate, safe_by_goals, safe_by_outcomes};
+pub use samples::{
+    asserted_parameter, false_goals, order_of_goals, refusals, rows_of_choices, two_invocations,
+};

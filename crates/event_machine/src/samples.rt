@@ -5,6 +5,7 @@ ghost use Rattle.event_machine.specs.Machine.{Invoke, Local, Return, Fail, Check
 ghost use Rattle.event_machine.specs.Runs.{outcome, Clean, ViolatedAt, RefusedAt};
 ghost use Rattle.event_machine.specs.Code.{Done, codes, paths};
 ghost use Rattle.event_machine.specs.Goals.{goals, path};
+ghost use Rattle.event_machine.specs.Tests.{is_false};
 ghost use Rattle.event_machine.specs.Samples.{span, program, b, claims_b, tautology, ten_ifs, eleven_ifs, branches, never};
 
 /// `assert b` violates at the Local behind the one label that invokes it with `false`.
@@ -47,4 +48,11 @@ pub fn order_of_goals()
     ensures paths { map path (goals (program (branches ∷ never ∷ []))) ≡ (1 ∷ []) ∷ (1 ∷ []) ∷ (2 ∷ []) ∷ (2 ∷ []) ∷ [] ∷ [] }
     ensures procedures { map (λ goal. goal.proc) (goals (program (branches ∷ never ∷ []))) ≡ 0 ∷ 0 ∷ 0 ∷ 0 ∷ 1 ∷ [] }
     ensures params { map (λ goal. goal.params) (goals (program (branches ∷ never ∷ []))) ≡ 1 ∷ 1 ∷ 1 ∷ 1 ∷ 0 ∷ [] }
+{}
+
+/// `b || !b` is one goal, which isn't false. Behind a choice, `b` is false where the choice took the other branch.
+pub fn false_goals()
+    ensures tautology { map is_false (goals tautology) ≡ false ∷ [] }
+    ensures asserted_parameter { map is_false (goals claims_b) ≡ true ∷ [] }
+    ensures choices { map is_false (goals (program (branches ∷ never ∷ []))) ≡ false ∷ false ∷ false ∷ true ∷ true ∷ [] }
 {}
