@@ -10,8 +10,17 @@ use Rattle.rp_lang.specs.Programs.{Proc, Prog}
 abbrev pub span : ℕ → ℕ → Span
 span from to = record { from = from; to = to }
 
+-- The rest of a program, which the machine doesn't read, is left empty.
 abbrev pub program : List Proc → Prog
-program procs = record { invs = []; procs = procs }
+program procs = record {
+  types = record { atoms = []; datatypes = [] };
+  cons = record { cons = [] };
+  roots = [];
+  ops = [];
+  queries = [];
+  invs = [];
+  procs = procs;
+}
 
 -- the procedure `p` with the parameter `b: Bool`, from one place to another
 abbrev pub proc_of_b : ℕ → ℕ → Sts → Proc
