@@ -3,6 +3,7 @@ ghost use Rattle.std.specs.Prelude.{◌≡◌, IfOk};
 use crate::memory::Memory;
 use std::alloc::Global;
 use std::marker::Model;
+use std::ops::Deref;
 
 /// A `Box` that contracts see as what it holds.
 #[derive(Debug, Drop)]
@@ -42,4 +43,28 @@ impl<T: Drop> Boxed<T> {
             inner: Box::new(alloc, value)?,
         })
     }
+}
+
+impl<T> Deref for Boxed<T> {
+    type Target = T;
+
+    ghost deref_gives = { λ b x. x ≡ b };
+
+    fn deref(&self) -> &T {
+        self.get()
+    }
+}
+
+impl<T: PartialEq> PartialEq for Boxed<T> {
+    ghost eq = { T.eq };
+
+    ghost laws = { T.laws };
+
+    fn eq(&self, other: &Self) -> bool {
+        self.get() == other.get()
+    }
+}
+
+impl<T: Eq> Eq for Boxed<T> {
+    ghost laws = { T.Eq.laws };
 }
