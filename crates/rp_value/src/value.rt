@@ -5,7 +5,7 @@ use crate::memory::Memory;
 use std::alloc::Global;
 
 /// A value of a program. `Atom` has its type's number in a `TypeTable`, `Con` its constructor's in a `ConTable`.
-#[derive(Debug, Drop)]
+#[derive(Debug, Drop, PartialEq, Eq)]
 pub enum Value {
     Int(i128),
     Str(Bytes),
@@ -77,4 +77,53 @@ pub fn copy_values(alloc: Global, values: &[Value]) -> Result<List<Value>, Memor
         copies.push(value.copy(alloc)?)?;
     }
     Ok(copies)
+}
+
+#[cfg(test)]
+mod tests {
+    use super::*;
+    use std::test::Fail;
+
+    // the value `num` of type 2, and the text `name`, in constructor 3
+    fn pair(alloc: Global, num: u32, name: &[u8]) -> Result<Value, Memory> {
+        let mut args = List::new(alloc);
+        args.push(Value::Atom { ty: 2, num })?;
+        args.push(Value::Str(copy_bytes(alloc, name)?))?;
+        Ok(Value::Con { con: 3, args })
+    }
+
+    #[test]
+    fn a_copy_is_the_same(rt: HostRuntime) -> Result<(), Fail> {
+        let alloc = rt.alloc();
+        for value in [
+            pair(alloc, 7, b"ann")?,
+            Value::Int(-7),
+            Value::Call(1),
+            Value::Inv(1),
+        ] {
+            let copy = value.copy(alloc)?;
+            assert!(rt; value.same(&copy));
+            assert_eq!(rt; copy, value);
+        }
+        Ok(())
+    }
+
+    #[test]
+    fn values_that_differ_are_not_the_same(rt: HostRuntime) -> Result<(), Fail> {
+        let alloc = rt.alloc();
+        let value = pair(alloc, 7, b"ann")?;
+        for other in [
+            pair(alloc, 8, b"ann")?,
+            pair(alloc, 7, b"bob")?,
+            Value::Con {
+                con: 3,
+                args: List::new(alloc),
+            },
+            Value::Int(3),
+        ] {
+            assert!(rt; !value.same(&other));
+        }
+        assert!(rt; !Value::Call(1).same(&Value::Inv(1)));
+        Ok(())
+    }
 }
