@@ -11,3 +11,5 @@ pub mod Unique
 pub mod Moving
 pub mod Reading
 pub mod Places
+pub mod Tables
+pub mod Toks
