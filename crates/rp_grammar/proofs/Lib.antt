@@ -13,3 +13,5 @@ pub mod Reading
 pub mod Places
 pub mod Tables
 pub mod Toks
+pub mod Computed
+pub mod Rows

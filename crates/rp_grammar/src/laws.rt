@@ -7,6 +7,7 @@ ghost use Rattle.rp_grammar.specs.Spelling.{spelling, mark, word_of, symbol_of};
 ghost use Rattle.rp_grammar.specs.Terminals.{Tok};
 ghost use Rattle.rp_grammar.specs.Begins.{EndsInEnd};
 ghost use Rattle.rp_grammar.specs.Texts.{HasToks};
+ghost use Rattle.rp_grammar.specs.Rows.{Tautology, ParenthesesOfAnOperand, ParenthesesOfANode, NestingsOfASum, TwoVariables, QuantifierInAChain, ElseIf, ReplicatedTypes, Datatypes, MatchesAndAccesses, WordsWithArguments, Statements, DeclaredTypes, Strings, TautologyTokens};
 ghost use Rattle.rp_grammar.specs.Lexed.{Lexed, Faulty, EndsAt, Spelled};
 
 use crate::{LexFault, Symbol, Token, Word};
@@ -38,4 +39,23 @@ pub fn bytes_have_one_list_of_terminals()
     ensures one { (bytes : List ℕ) (us vs : List Tok) → HasToks bytes us → HasToks bytes vs → us ≡ vs }
     ensures some { (bytes : List ℕ) (ts : List Token) → Lexed 0 bytes ts → (us : List Tok) × HasToks bytes us }
     ensures ends { (bytes : List ℕ) (us : List Tok) → HasToks bytes us → EndsInEnd us }
+{}
+
+/// What some texts are, with spans and nestings.
+pub fn worked_rows()
+    ensures tautology { Tautology }
+    ensures parentheses_of_an_operand { ParenthesesOfAnOperand }
+    ensures parentheses_of_a_node { ParenthesesOfANode }
+    ensures nestings_of_a_sum { NestingsOfASum }
+    ensures two_variables { TwoVariables }
+    ensures quantifier_in_a_chain { QuantifierInAChain }
+    ensures else_if { ElseIf }
+    ensures replicated_types { ReplicatedTypes }
+    ensures datatypes { Datatypes }
+    ensures matches_and_accesses { MatchesAndAccesses }
+    ensures words_with_arguments { WordsWithArguments }
+    ensures statements { Statements }
+    ensures declared_types { DeclaredTypes }
+    ensures strings { Strings }
+    ensures tautology_tokens { TautologyTokens }
 {}
