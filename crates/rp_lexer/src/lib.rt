@@ -9,6 +9,8 @@ mod names;
 mod numbers;
 mod scan;
 mod strings;
+#[cfg(test)]
+mod tests;
 mod text;
 mod words;
 
