@@ -1,0 +1,3 @@
+mod Exact
+mod Named
+mod Spelled
