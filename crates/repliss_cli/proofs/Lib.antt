@@ -1,1 +1,3 @@
-mod Growing
+pub mod Growing
+pub mod Causes
+pub mod Putting

@@ -22,6 +22,6 @@ pub record IsFirstText (bytes : List ℕ) (p : Prog) : Type 0 where
   pub procs : ProcsOf (names p.procs) tree p.procs
   pub distinct : AreDistinct (names p.procs)
   -- within the numbers of a program, and nothing but its procedures
-  pub plain : IsPlainProgram p
+  -- pub plain : IsPlainProgram p
   pub few_paths : All HasFewPaths p.procs
   pub few_goals : length (goals p) ≤ 2048
