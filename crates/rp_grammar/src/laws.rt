@@ -44,6 +44,7 @@ pub fn bytes_have_one_list_of_terminals()
 /// What some texts are, with spans and nestings.
 pub fn worked_rows()
     ensures tautology { Tautology }
+    ensures tautology_tokens { TautologyTokens }
     ensures parentheses_of_an_operand { ParenthesesOfAnOperand }
     ensures parentheses_of_a_node { ParenthesesOfANode }
     ensures nestings_of_a_sum { NestingsOfASum }
@@ -57,5 +58,4 @@ pub fn worked_rows()
     ensures statements { Statements }
     ensures declared_types { DeclaredTypes }
     ensures strings { Strings }
-    ensures tautology_tokens { TautologyTokens }
 {}
