@@ -4,7 +4,14 @@ ghost use Rattle.std.specs.Prelude.{◌≡◌, ◌⊎◌, ◌↔◌, ℕ, List, 
 ghost use Rattle.std.specs.List.{AllByRecursion};
 ghost use Rattle.rp_grammar.specs.Bytes.{is_one_of, reserved, symbols};
 ghost use Rattle.rp_grammar.specs.Spelling.{spelling, mark, word_of, symbol_of};
-ghost use Rattle.rp_grammar.specs.Terminals.{Tok};
+ghost use Rattle.rp_grammar.specs.Terminals.{Tok, Placed};
+ghost use Rattle.rp_grammar.specs.Trees.{TypeTree, CrdtTree, ExprTree, AccessTree, BlockTree, StmtTree, DeclTree};
+ghost use Rattle.rp_grammar.specs.Parts.{Part, tree_of, extent_of};
+ghost use Rattle.rp_grammar.specs.Types.{TypePhrase, Crdt};
+ghost use Rattle.rp_grammar.specs.Exprs.{Expr, Access};
+ghost use Rattle.rp_grammar.specs.Stmts.{Block, Stmt, block_span, stmt_span};
+ghost use Rattle.rp_grammar.specs.Decls.{Decl};
+ghost use Rattle.rp_grammar.specs.Extents.{Covers, InParens, type_span, crdt_span, expr_span, decl_span};
 ghost use Rattle.rp_grammar.specs.Begins.{EndsInEnd};
 ghost use Rattle.rp_grammar.specs.Texts.{HasToks};
 ghost use Rattle.rp_grammar.specs.Rows.{Tautology, ParenthesesOfAnOperand, ParenthesesOfANode, NestingsOfASum, TwoVariables, QuantifierInAChain, ElseIf, ReplicatedTypes, Datatypes, MatchesAndAccesses, WordsWithArguments, Statements, DeclaredTypes, Strings, TautologyTokens};
@@ -39,6 +46,19 @@ pub fn bytes_have_one_list_of_terminals()
     ensures one { (bytes : List ℕ) (us vs : List Tok) → HasToks bytes us → HasToks bytes vs → us ≡ vs }
     ensures some { (bytes : List ℕ) (ts : List Token) → Lexed 0 bytes ts → (us : List Tok) × HasToks bytes us }
     ensures ends { (bytes : List ℕ) (us : List Tok) → HasToks bytes us → EndsInEnd us }
+{}
+
+/// The span of a node goes from the first token of its phrase to the end of its last. Only parentheses
+/// around an expression lie outside the expression's own span.
+pub fn spans_cover_phrases()
+    ensures types { (d : ℕ) (ts r : List Placed) (t : TypeTree) → TypePhrase d ts t r → Covers ts r (type_span t) }
+    ensures crdts { (d : ℕ) (ts r : List Placed) (t : CrdtTree) → Crdt d ts t r → Covers ts r (crdt_span t) }
+    ensures exprs { (d : ℕ) (ts r : List Placed) (e : Part ExprTree) → Expr d ts e r → Covers ts r (extent_of e) }
+    ensures parentheses { (d : ℕ) (ts r : List Placed) (e : Part ExprTree) → Expr d ts e r → (expr_span (tree_of e) ≡ extent_of e) ⊎ InParens d ts r e }
+    ensures accesses { (d : ℕ) (ts r : List Placed) (a : Part AccessTree) → Access d ts a r → Covers ts r (extent_of a) }
+    ensures blocks { (d : ℕ) (ts r : List Placed) (b : BlockTree) → Block d ts b r → Covers ts r (block_span b) }
+    ensures stmts { (d : ℕ) (ts r : List Placed) (x : StmtTree) → Stmt d ts x r → Covers ts r (stmt_span x) }
+    ensures decls { (ts r : List Placed) (x : DeclTree) → Decl ts x r → Covers ts r (decl_span x) }
 {}
 
 /// What some texts are, with spans and nestings.
