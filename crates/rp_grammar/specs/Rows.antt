@@ -1,5 +1,5 @@
 -- Worked rows: texts, the nestings of their tokens (the end's among them), and their trees.
-use Rattle.std.specs.Prelude.{ℕ, ◌+◌, ◌≡◌, List, [], ◌∷◌, codes, map, pos, negsuc, length, None, Some}
+use Rattle.std.specs.Prelude.{ℕ, ◌+◌, ◌≡◌, true, false, List, [], ◌∷◌, codes, map, pos, negsuc, length, None, Some}
 use Rattle.rp_span.specs.declared.Span.{Span}
 use Rattle.rp_grammar.specs.declared.operator.CompareOp.TheVariants as compare
 use Rattle.rp_grammar.specs.declared.operator.CallWord.TheVariants as called
@@ -204,3 +204,51 @@ Strings =
     Reads (codes "invariant s == \"a\\\"\\\\\\n\";")
     (0 ∷ 0 ∷ 0 ∷ 0 ∷ 0 ∷ 0 ∷ [])
     (one_decl 25 (DeclForm.invariant None (expr_at 10 24 (ExprForm.compare compare.Equal (variable (codes "s") 10) literal))))
+
+-- the other replicated types
+abbrev pub ReplicatedTypesByName : Type 0
+ReplicatedTypesByName =
+    let a = FieldTree.field (name_at (codes "a") 10) (CrdtTree.node (span 13 23) (CrdtForm.set_rw (type_at 19 22 TypeForm.int))) in
+    let b = FieldTree.field (name_at (codes "b") 25) (CrdtTree.node (span 28 39) (CrdtForm.reg (type_at 32 38 TypeForm.text))) in
+    let c = FieldTree.field (name_at (codes "c") 41) (CrdtTree.node (span 44 55) (CrdtForm.mv_reg (type_at 50 54 TypeForm.bool))) in
+    let counter = CrdtTree.node (span 69 76) CrdtForm.counter in
+    let d = FieldTree.field (name_at (codes "d") 57) (CrdtTree.node (span 60 77) (CrdtForm.map_dw (named_type (codes "K") 66) counter)) in
+    Reads (codes "crdt s: { a: SetRw[Int], b: Reg[String], c: MvReg[Bool], d: MapDw[K, Counter] };")
+    (0 ∷ 0 ∷ 0 ∷ 0 ∷ 1 ∷ 1 ∷ 1 ∷ 1 ∷ 2 ∷ 1 ∷ 1 ∷ 1 ∷ 1 ∷ 1 ∷ 1 ∷ 2 ∷ 1 ∷ 1 ∷ 1 ∷ 1 ∷ 1 ∷ 1 ∷ 2 ∷ 1 ∷ 1 ∷ 1 ∷ 1 ∷ 1 ∷ 1 ∷ 2 ∷ 2 ∷ 2 ∷ 1 ∷ 0 ∷ 0 ∷ 0 ∷ [])
+    (one_decl 80 (DeclForm.crdt (name_at (codes "s") 5) (CrdtTree.node (span 8 79) (CrdtForm.struct (fields (a ∷ b ∷ c ∷ d ∷ []))))))
+
+-- the other comparisons, and a chain of three
+abbrev pub Comparisons : Type 0
+Comparisons =
+    let a = ParamTree.param (name_at (codes "a") 8) (type_at 11 15 TypeForm.call) in
+    let b = ParamTree.param (name_at (codes "b") 17) (type_at 20 30 TypeForm.invocation) in
+    let at_most = expr_at 40 46 (ExprForm.compare compare.AtMost (expr_at 40 41 (ExprForm.int (pos 1))) (expr_at 45 46 (ExprForm.int (pos 2)))) in
+    let greater = expr_at 50 55 (ExprForm.compare compare.Greater (expr_at 50 51 (ExprForm.int (pos 3))) (variable (codes "x") 54)) in
+    let at_least = expr_at 59 65 (ExprForm.compare compare.AtLeast (variable (codes "y") 59) (variable (codes "z") 64)) in
+    let body = expr_at 40 65 (ExprForm.and (exprs (at_most ∷ greater ∷ at_least ∷ []))) in
+    Reads (codes "query q(a: call, b: invocation): Bool = 1 <= 2 && 3 > x && y >= z;")
+    (0 ∷ 0 ∷ 0 ∷ 1 ∷ 1 ∷ 1 ∷ 1 ∷ 1 ∷ 1 ∷ 1 ∷ 0 ∷ 0 ∷ 0 ∷ 0 ∷ 0 ∷ 0 ∷ 0 ∷ 0 ∷ 0 ∷ 0 ∷ 0 ∷ 0 ∷ 0 ∷ 0 ∷ 0 ∷ 0 ∷ 0 ∷ [])
+    (one_decl 66 (DeclForm.query (QueryTree.query (name_at (codes "q") 6) (a ∷ b ∷ []) (type_at 33 37 TypeForm.bool) body)))
+
+-- the other words with arguments, and words that stand alone
+abbrev pub WordsAlone : Type 0
+WordsAlone =
+    let visible = expr_at 10 23 (ExprForm.call called.Visible (exprs (expr_at 18 22 (ExprForm.truth true) ∷ []))) in
+    let same = expr_at 27 44 (ExprForm.call called.Same (exprs (expr_at 32 37 (ExprForm.truth false) ∷ expr_at 39 43 ExprForm.none_word ∷ []))) in
+    let some_tx = expr_at 55 63 (ExprForm.some_of (expr_at 60 62 ExprForm.tx)) in
+    let origin = expr_at 48 64 (ExprForm.call called.Origin (exprs (some_tx ∷ []))) in
+    let info = expr_at 68 75 (ExprForm.call called.Info (exprs (variable (codes "c") 73 ∷ []))) in
+    Reads (codes "invariant visible(true) || same(false, none) || origin(some(tx)) || info(c);")
+    (0 ∷ 0 ∷ 0 ∷ 1 ∷ 0 ∷ 0 ∷ 0 ∷ 0 ∷ 1 ∷ 1 ∷ 1 ∷ 0 ∷ 0 ∷ 0 ∷ 0 ∷ 1 ∷ 1 ∷ 2 ∷ 1 ∷ 0 ∷ 0 ∷ 0 ∷ 0 ∷ 1 ∷ 0 ∷ 0 ∷ 0 ∷ [])
+    (one_decl 76 (DeclForm.invariant None (expr_at 10 75 (ExprForm.or (exprs (visible ∷ same ∷ origin ∷ info ∷ []))))))
+
+-- statements without what they may have
+abbrev pub ShortStatements : Type 0
+ShortStatements =
+    let declared = stmt_at 11 20 (StmtForm.var (name_at (codes "x") 15) (named_type (codes "T") 18) None) in
+    let returned = stmt_at 30 37 (StmtForm.return None) in
+    let branch = stmt_at 21 39 (StmtForm.if_ (variable (codes "x") 25) (block_at 28 39 (returned ∷ [])) ElseTree.no_else) in
+    let asserted = stmt_at 40 49 (StmtForm.assert (variable (codes "x") 47)) in
+    Reads (codes "proc p() { var x: T; if (x) { return; } assert x; }")
+    (0 ∷ 0 ∷ 0 ∷ 0 ∷ 0 ∷ 1 ∷ 1 ∷ 1 ∷ 1 ∷ 1 ∷ 1 ∷ 1 ∷ 2 ∷ 1 ∷ 1 ∷ 2 ∷ 2 ∷ 1 ∷ 1 ∷ 1 ∷ 1 ∷ 0 ∷ 0 ∷ [])
+    (one_decl 51 (DeclForm.proc (ProcTree.proc (name_at (codes "p") 5) [] None (block_at 9 51 (declared ∷ branch ∷ asserted ∷ [])))))

@@ -93,6 +93,10 @@ pub fn worked_rows()
     ensures matches_and_accesses { rows.MatchesAndAccesses }
     ensures words_with_arguments { rows.WordsWithArguments }
     ensures statements { rows.Statements }
+    ensures replicated_types_by_name { rows.ReplicatedTypesByName }
+    ensures comparisons { rows.Comparisons }
+    ensures words_alone { rows.WordsAlone }
+    ensures short_statements { rows.ShortStatements }
     ensures declared_types { rows.DeclaredTypes }
     ensures strings { rows.Strings }
 {}
