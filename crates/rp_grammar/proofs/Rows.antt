@@ -1,12 +1,13 @@
 -- Derivations of the worked rows.
 use Rattle.std.specs.Prelude.{codes}
-use Rattle.std.proofs.Common.{◌≡◌, ℕ, List, [], ◌∷◌, map, refl, Option, Some, None}
+use Rattle.std.proofs.Common.{◌≡◌, ℕ, List, [], ◌∷◌, true, map, take, drop, refl, ap, subst, ◌∙◌, arith, Option, Some, None}
+use Rattle.std.proofs.Common.{lit<}
 use Rattle.rp_grammar.specs.declared.TokenKind.TheVariants as kind
 use Rattle.rp_grammar.specs.declared.terminal.Word.TheVariants as word
 use Rattle.rp_grammar.specs.declared.terminal.Symbol.TheVariants as symbol
 use Rattle.rp_grammar.specs.Lexed.{token_at}
 use Rattle.rp_grammar.specs.Toks.{Means, ToksOf}
-use Rattle.rp_grammar.specs.Terminals.{name, word, str, symbol, end, Tok, at, Placed, on, plain, nesting}
+use Rattle.rp_grammar.specs.Terminals.{Terminal, name, word, str, symbol, end, Tok, at, Placed, on, plain, nesting}
 use Rattle.rp_span.specs.declared.Span.{Span}
 use Rattle.rp_grammar.specs.Trees.{ident, ExprTree, ExprForm, AccessTree, ArgTrees, DeclTree, steps}
 use Rattle.rp_grammar.specs.Parts.{Part, part, built}
@@ -16,7 +17,12 @@ use Rattle.rp_grammar.specs.Exprs as exprs
 use Rattle.rp_grammar.specs.Stmts as stmts
 use Rattle.rp_grammar.specs.Decls as decls
 use Rattle.rp_grammar.specs.Decls.{Program}
-use Rattle.rp_grammar.specs.Rows.{Reads, span, Tautology, ParenthesesOfAnOperand, ParenthesesOfANode, NestingsOfASum, TwoVariables, QuantifierInAChain, ElseIf, ReplicatedTypes, Datatypes, MatchesAndAccesses, WordsWithArguments, Statements, DeclaredTypes, Strings, TautologyTokens, ReplicatedTypesByName, Comparisons, WordsAlone, ShortStatements}
+use Rattle.rp_grammar.specs.Rows.{Reads, span, Tautology, ParenthesesOfAnOperand, ParenthesesOfANode, NestingsOfASum, TwoVariables, QuantifierInAChain, ElseIf, ReplicatedTypes, Datatypes, MatchesAndAccesses, WordsWithArguments, Statements, DeclaredTypes, Strings, TautologyTokens, ReplicatedTypesByName, Comparisons, WordsAlone, ShortStatements, tautology_text, tautology_tree, TautologyWithinTwo, TautologyPastNone, NoProgram}
+use Rattle.std.specs.Prelude.{nat_le}
+use Rattle.std.specs.List.{list_all}
+use Rattle.std.proofs.lemmas.Bool.Decides.{nat_tests}
+use Rattle.rp_grammar.specs.Begins.{AtMost}
+use Rattle.rp_grammar.proofs.Words.{and_left, and_right}
 use Rattle.rp_grammar.proofs.Computed.{lexed, toks_of, has_toks}
 
 abbrev placed : List Tok → List ℕ → List Placed
@@ -42,9 +48,12 @@ operand p = exprs.comparison (exprs.cmp (exprs.sum p exprs.no_sum) exprs.no_cmp)
 alone : {d : ℕ} {ts r : List Placed} {x : ExprTree} {s : Span} → Notx d ts (part x s) r → Expr d ts (part x s) r
 alone e = exprs.expr (exprs.or (exprs.and e exprs.no_and) exprs.no_or) exprs.no_right
 
-pub tautology : Tautology
-tautology = made (codes "proc p(b: Bool) { assert b || !b; }") (0 ∷ 0 ∷ 0 ∷ 1 ∷ 1 ∷ 1 ∷ 0 ∷ 0 ∷ 1 ∷ 1 ∷ 1 ∷ 1 ∷ 2 ∷ 1 ∷ 0 ∷ 0 ∷ []) refl refl
-    (decls.more_decls
+abbrev tautology_placed : List Placed
+tautology_placed = placed (found (toks_of tautology_text)) (0 ∷ 0 ∷ 0 ∷ 1 ∷ 1 ∷ 1 ∷ 0 ∷ 0 ∷ 1 ∷ 1 ∷ 1 ∷ 1 ∷ 2 ∷ 1 ∷ 0 ∷ 0 ∷ [])
+
+tautology_program : Program tautology_placed tautology_tree
+tautology_program =
+    decls.more_decls
     (decls.proc (types.some_params (types.params (types.param types.bool) types.no_param)) decls.no_result
     (stmts.block
     (stmts.more_stmts
@@ -54,7 +63,10 @@ tautology = made (codes "proc p(b: Bool) { assert b || !b; }") (0 ∷ 0 ∷ 0 �
     (exprs.or_more (exprs.and (exprs.negated (operand name_alone)) exprs.no_and) exprs.no_or))
     exprs.no_right))
     stmts.no_stmt)))
-    decls.end_)
+    decls.end_
+
+pub tautology : Tautology
+tautology = record { tokens = tautology_placed; of_text = has_toks tautology_text _ refl; nested = refl; program = tautology_program }
 
 pub parentheses_of_an_operand : ParenthesesOfAnOperand
 parentheses_of_an_operand = made (codes "invariant (a) == b;") (0 ∷ 0 ∷ 1 ∷ 0 ∷ 0 ∷ 0 ∷ 0 ∷ 0 ∷ []) refl refl
@@ -276,9 +288,6 @@ strings = record {
       decls.end_;
 }
 
-pub tautology_tokens : TautologyTokens
-tautology_tokens = has_toks (codes "proc p(b: Bool) { assert b || !b; }") _ refl
-
 pub replicated_types_by_name : ReplicatedTypesByName
 replicated_types_by_name = made (codes "crdt s: { a: SetRw[Int], b: Reg[String], c: MvReg[Bool], d: MapDw[K, Counter] };") (0 ∷ 0 ∷ 0 ∷ 0 ∷ 1 ∷ 1 ∷ 1 ∷ 1 ∷ 2 ∷ 1 ∷ 1 ∷ 1 ∷ 1 ∷ 1 ∷ 1 ∷ 2 ∷ 1 ∷ 1 ∷ 1 ∷ 1 ∷ 1 ∷ 1 ∷ 2 ∷ 1 ∷ 1 ∷ 1 ∷ 1 ∷ 1 ∷ 1 ∷ 2 ∷ 2 ∷ 2 ∷ 1 ∷ 0 ∷ 0 ∷ 0 ∷ []) refl refl
     (decls.more_decls
@@ -353,3 +362,48 @@ short_statements = made (codes "proc p() { var x: T; if (x) { return; } assert x
     stmts.no_else))
     (stmts.more_stmts (stmts.assert (alone (operand name_alone))) stmts.no_stmt)))))
     decls.end_)
+
+pub tautology_tokens : TautologyTokens
+tautology_tokens = has_toks tautology_text _ refl
+
+at_most : (n : ℕ) (ms : List Placed) → list_all (λ m. nat_le (nesting m) n) ms ≡ true → AtMost n ms
+at_most n [] h = tt
+at_most n (m ∷ ms) h =
+    let first = and_left (nat_le (nesting m) n) (list_all (λ m. nat_le (nesting m) n) ms) h in
+    let rest = and_right (nat_le (nesting m) n) (list_all (λ m. nat_le (nesting m) n) ms) h in
+    (grind (arith, nat_tests), at_most n ms rest)
+
+pub tautology_within_two : TautologyWithinTwo
+tautology_within_two = (map plain tautology_placed, has_toks tautology_text _ refl, (tautology_placed, refl, tautology_program, at_most 2 tautology_placed refl))
+
+pub tautology_past_none : TautologyPastNone
+tautology_past_none = (
+  map plain tautology_placed,
+  3,
+  has_toks tautology_text _ refl,
+  (lit< tt, take 3 tautology_placed, drop 4 tautology_placed, on (name (codes "b")) (span 7 8) 1, tautology_tree, tautology_program, refl, at_most 0 (take 3 tautology_placed) refl, lit< tt),
+  (_, _, refl, refl),
+)
+
+starts : {k : Terminal} {s : Span} {us : List Tok} (ms : List Placed) → map plain ms ≡ at k s ∷ us → (d : ℕ) × (ns : List Placed) × (ms ≡ on k s d ∷ ns)
+starts [] h = cc
+starts {k = k} {s = s} (on j t d ∷ ns) h =
+    let kinds : j ≡ k = cc in
+    let spans : t ≡ s = cc in
+    (d, ns, ap (λ k. on k t d ∷ ns) kinds ∙ ap (λ s. on k s d ∷ ns) spans)
+
+no_decl : {s : Span} {d : ℕ} {ts : List Placed} {tree : List DeclTree} → Program (on (symbol symbol.Semicolon) s d ∷ ts) tree → ⊥
+no_decl (decls.more_decls x m) = elim x [ ]
+
+pub no_program : NoProgram
+no_program = (
+  at (symbol symbol.Semicolon) (span 1 2) ∷ at end (span 2 2) ∷ [],
+  0,
+  has_toks (codes " ;") _ refl,
+  (
+    lit< tt,
+    ([], on end (span 0 0) 0 ∷ [], [], decls.end_, refl, tt),
+    λ (more, tree, (ms, h, p)). let (d, ns, g) = starts ms h in no_decl (subst (λ ms. Program ms tree) g p),
+  ),
+  (_, _, refl, refl),
+)

@@ -8,7 +8,7 @@ use Rattle.rp_grammar.specs.declared.terminal.Symbol.TheVariants as symbol
 use Rattle.rp_grammar.specs.Terminals.{name, word, symbol, end, at, Placed, plain, nesting}
 use Rattle.rp_grammar.specs.Trees.{Ident, ident, TypeTree, TypeForm, ParamTree, CrdtTree, CrdtForm, FieldTree, PatternTree, ExprTree, ExprForm, ExprArmTree, AccessTree, StepTree, ArgTrees, BlockTree, StmtTree, StmtForm, ElseTree, BlockArmTree, ConTree, QueryTree, ProcTree, DeclForm, DeclTree, fields, exprs, expr_arms, steps, stmts, block_arms}
 use Rattle.rp_grammar.specs.Decls.{Program}
-use Rattle.rp_grammar.specs.Texts.{HasToks}
+use Rattle.rp_grammar.specs.Texts.{HasToks, IsTextWithin, IsBadAt, IsTooDeepAt}
 
 -- the text's tokens have these nestings and this tree
 pub record Reads (text nestings : List ℕ) (tree : List DeclTree) : Type 0 where
@@ -47,19 +47,34 @@ abbrev pub one_decl : ℕ → DeclForm → List DeclTree
 one_decl n f = DeclTree.node (span 0 n) f ∷ []
 
 -- a chain of two is one node, from its first member to its last
-abbrev pub Tautology : Type 0
-Tautology =
+abbrev pub tautology_text : List ℕ
+tautology_text = codes "proc p(b: Bool) { assert b || !b; }"
+
+abbrev pub tautology_tree : List DeclTree
+tautology_tree =
     let negation = expr_at 30 32 (ExprForm.not (variable (codes "b") 31)) in
     let claim = expr_at 25 32 (ExprForm.or (exprs (variable (codes "b") 25 ∷ negation ∷ []))) in
     let parameter = ParamTree.param (name_at (codes "b") 7) (type_at 10 14 TypeForm.bool) in
     let body = block_at 16 35 (stmt_at 18 33 (StmtForm.assert claim) ∷ []) in
-    Reads (codes "proc p(b: Bool) { assert b || !b; }")
-    (0 ∷ 0 ∷ 0 ∷ 1 ∷ 1 ∷ 1 ∷ 0 ∷ 0 ∷ 1 ∷ 1 ∷ 1 ∷ 1 ∷ 2 ∷ 1 ∷ 0 ∷ 0 ∷ [])
-    (one_decl 35 (DeclForm.proc (ProcTree.proc (name_at (codes "p") 5) (parameter ∷ []) None body)))
+    one_decl 35 (DeclForm.proc (ProcTree.proc (name_at (codes "p") 5) (parameter ∷ []) None body))
+
+abbrev pub Tautology : Type 0
+Tautology = Reads tautology_text (0 ∷ 0 ∷ 0 ∷ 1 ∷ 1 ∷ 1 ∷ 0 ∷ 0 ∷ 1 ∷ 1 ∷ 1 ∷ 1 ∷ 2 ∷ 1 ∷ 0 ∷ 0 ∷ []) tautology_tree
+
+-- no token of it is nested deeper than 2, and the first one that is nested at all is the parameter's name
+abbrev pub TautologyWithinTwo : Type 0
+TautologyWithinTwo = IsTextWithin 2 tautology_text tautology_tree
+
+abbrev pub TautologyPastNone : Type 0
+TautologyPastNone = IsTooDeepAt 0 tautology_text 7
+
+-- no program begins with a semicolon
+abbrev pub NoProgram : Type 0
+NoProgram = IsBadAt 64 (codes " ;") 1
 
 -- its tokens, one by one
 abbrev pub TautologyTokens : Type 0
-TautologyTokens = HasToks (codes "proc p(b: Bool) { assert b || !b; }")
+TautologyTokens = HasToks tautology_text
     (at (word word.Proc) (span 0 4) ∷ at (name (codes "p")) (span 5 6)
     ∷ at (symbol symbol.OpenParen) (span 6 7) ∷ at (name (codes "b")) (span 7 8) ∷ at (symbol symbol.Colon) (span 8 9)
     ∷ at (word word.Bool) (span 10 14) ∷ at (symbol symbol.CloseParen) (span 14 15) ∷ at (symbol symbol.OpenBrace) (span 16 17)

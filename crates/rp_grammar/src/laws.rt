@@ -82,6 +82,9 @@ pub fn spans_cover_phrases()
 pub fn worked_rows()
     ensures tautology { rows.Tautology }
     ensures tautology_tokens { rows.TautologyTokens }
+    ensures tautology_within_two { rows.TautologyWithinTwo }
+    ensures tautology_past_none { rows.TautologyPastNone }
+    ensures no_program { rows.NoProgram }
     ensures parentheses_of_an_operand { rows.ParenthesesOfAnOperand }
     ensures parentheses_of_a_node { rows.ParenthesesOfANode }
     ensures nestings_of_a_sum { rows.NestingsOfASum }
