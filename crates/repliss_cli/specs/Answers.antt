@@ -25,14 +25,13 @@ pub record IsVerified (content : List ℕ) (count : ℕ) : Type 0 where
   pub safe : IsSafe program
   pub counts : count ≡ length (goals program)
 
+-- the name of the procedure of that number
+abbrev pub name_at : Prog → ℕ → List ℕ
+name_at p k = option_map_or (λ q. q.name) (slice_get p.procs k) []
+
 -- the line of a goal with its number
 abbrev pub line_of : List ℕ → Prog → ℕ → Goal → GoalLine
-line_of content p n goal = record {
-  goal = n;
-  proc = option_map_or (λ q. q.name) (slice_get p.procs goal.proc) [];
-  path = path goal;
-  at = place_of content goal.at.from;
-}
+line_of content p n goal = record { goal = n; proc = name_at p goal.proc; path = path goal; at = place_of content goal.at.from }
 
 -- The lines are those of exactly the false goals among these, in order. The goals are numbered from n on.
 pub data NameFalse (content : List ℕ) (p : Prog) : ℕ → List Goal → List GoalLine → Type 0 where

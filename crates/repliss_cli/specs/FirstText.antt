@@ -3,6 +3,7 @@ use Rattle.std.specs.Prelude.{◌≡◌, ℕ, ◌≤◌, IsTrue, List, length, A
 use Rattle.rp_grammar.specs.Trees.{DeclTree}
 use Rattle.rp_grammar.specs.Texts.{IsTextWithin}
 use Rattle.rp_lang.specs.Programs.{Proc, Prog}
+use Rattle.rp_lang.specs.FirstForm.{IsFirstForm}
 use Rattle.rp_types.specs.FirstForm.{is_first_tree}
 use Rattle.rp_types.specs.Resolution.{ProcsOf, AreDistinct, names}
 use Rattle.event_machine.specs.Code.{Done, codes, paths}
@@ -21,7 +22,7 @@ pub record IsFirstText (bytes : List ℕ) (p : Prog) : Type 0 where
   pub form : IsTrue (is_first_tree tree)
   pub procs : ProcsOf (names p.procs) tree p.procs
   pub distinct : AreDistinct (names p.procs)
-  -- within the numbers of a program, and nothing but its procedures
-  -- pub plain : IsPlainProgram p
+  -- nothing but procedures, within the numbers of a program
+  pub plain : IsFirstForm p
   pub few_paths : All HasFewPaths p.procs
   pub few_goals : length (goals p) ≤ 2048
