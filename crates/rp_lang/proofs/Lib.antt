@@ -1,0 +1,4 @@
+pub mod CrdtViews
+pub mod ExprViews
+pub mod FormulaViews
+pub mod StmtViews
