@@ -4,3 +4,4 @@ pub mod Formulas
 pub mod Stmts
 pub mod Programs
 pub mod Views
+pub mod Sizes
