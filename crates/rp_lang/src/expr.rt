@@ -78,3 +78,48 @@ fn are_within(exprs: &[Expr], limit: u32) -> bool
     }
     true
 }
+
+impl Expr {
+    /// The number of nodes, or the greatest number where there are more.
+    #[cycle(expr_nodes)]
+    #[tactic(auto, using(crate::proofs::ExprViews::expr_views))]
+    pub fn nodes(&self) -> u64
+        ensures { result ≡ min (ex_nodes (expr_view self.now)) 18446744073709551615 }
+    {
+        match self {
+            Expr::Slot(_)
+            | Expr::Bound(_)
+            | Expr::Int(_)
+            | Expr::Str(_)
+            | Expr::ResultTerm(_, None)
+            | Expr::Unreturned => 1,
+            Expr::Con(_, args)
+            | Expr::Query(_, args)
+            | Expr::OpTerm(_, args)
+            | Expr::InfoTerm(_, args) => exprs_nodes(args.as_slice()).saturating_add(1),
+            Expr::Plus(e, _)
+            | Expr::OpOf(e)
+            | Expr::OriginOf(e)
+            | Expr::InfoOf(e)
+            | Expr::ResultOf(e)
+            | Expr::ResultTerm(_, Some(e)) => e.get().nodes().saturating_add(1),
+            Expr::Add(a, b) | Expr::Sub(a, b) => a
+                .get()
+                .nodes()
+                .saturating_add(b.get().nodes())
+                .saturating_add(1),
+        }
+    }
+}
+
+#[cycle(expr_nodes)]
+#[tactic(auto, using(crate::proofs::ExprViews::expr_views))]
+fn exprs_nodes(exprs: &[Expr]) -> u64
+    ensures { result ≡ min (exs_nodes (exprs_view exprs.now)) 18446744073709551615 }
+{
+    let mut nodes: u64 = 0;
+    for e in exprs {
+        nodes = nodes.saturating_add(e.nodes());
+    }
+    nodes
+}
