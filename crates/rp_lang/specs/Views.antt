@@ -17,6 +17,10 @@ use Rattle.rp_lang.specs.declared.stmt.StmtArm.{StmtArm}
 use Rattle.rp_lang.specs.declared.stmt.StmtKind.{StmtKind}
 use Rattle.rp_lang.specs.declared.stmt.StmtKind.TheOpen as stmt
 use Rattle.rp_lang.specs.declared.stmt.StmtKind.TheFolds.{fold-StmtKind, fold-Stmt, fold-StmtArm}
+use Rattle.rp_value.specs.declared.tables.TypeTable.{TypeTable}
+use Rattle.rp_value.specs.declared.tables.ConTable.{ConTable}
+use Rattle.rp_lang.specs.declared.op.OpDecl.{OpDecl}
+use Rattle.rp_lang.specs.declared.query.QueryDecl.{QueryDecl}
 use Rattle.rp_lang.specs.declared.root.Root.{Root}
 use Rattle.rp_lang.specs.declared.inv.InvDecl.{InvDecl}
 use Rattle.rp_lang.specs.declared.proc.ProcDecl.{ProcDecl}
@@ -204,4 +208,16 @@ proc_view p = record {
   result = p.result;
   slots = p.slots;
   body = stmts_view p.body;
+}
+
+-- the program with these parts
+abbrev pub parts_view : TypeTable → ConTable → List Root → List OpDecl → List QueryDecl → List InvDecl → List ProcDecl → Prog
+parts_view types cons roots ops queries invs procs = record {
+  types = types;
+  cons = cons;
+  roots = map root_view roots;
+  ops = ops;
+  queries = queries;
+  invs = map inv_view invs;
+  procs = map proc_view procs;
 }
