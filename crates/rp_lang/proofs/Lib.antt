@@ -1,0 +1,5 @@
+pub mod CrdtViews
+pub mod ExprViews
+pub mod FirstFormLemmas
+pub mod FormulaViews
+pub mod StmtViews
