@@ -1,0 +1,3 @@
+pub mod Tests
+pub mod Comes
+pub mod AcceptsTypes
