@@ -1,3 +1,5 @@
 pub mod Tests
 pub mod Comes
 pub mod AcceptsTypes
+pub mod FirstTokens
+pub mod AcceptsExprs
