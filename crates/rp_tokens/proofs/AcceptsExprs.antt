@@ -1,19 +1,18 @@
 -- The machine takes every expression, access and pattern of the grammar.
-use Rattle.std.proofs.Common.{◌≡◌, ℕ, suc, ◌<◌, false, cond, List, [], ◌∷◌, ◌++◌, Some, None, refl, sym, ap, ◌∙◌, append_assoc, append-nil, arith}
+use Rattle.std.proofs.Common.{ℕ, suc, ◌<◌, List, [], ◌∷◌, ◌++◌, refl, sym, ap, ◌∙◌, append_assoc, append-nil, arith}
 use Rattle.rp_span.specs.declared.Span.{Span}
-use Rattle.rp_grammar.specs.declared.operator.CompareOp.{CompareOp}
 use Rattle.rp_grammar.specs.declared.terminal.Symbol.TheVariants as symbol
-use Rattle.rp_grammar.specs.Terminals.{Terminal, name, symbol, Placed, on}
+use Rattle.rp_grammar.specs.Terminals.{symbol, Placed, on}
 use Rattle.rp_grammar.specs.Trees.{Ident, ident, PatternTree, ExprTree, ExprForm, ExprArmTree, AccessTree, StepTree, exprs, expr_arms}
-use Rattle.rp_grammar.specs.Parts.{join, Part, part, tree_of, extent_of, trees_of, reach, built, in_parens}
+use Rattle.rp_grammar.specs.Parts.{join, Part, tree_of, extent_of, trees_of, reach, built, in_parens}
 use Rattle.rp_grammar.specs.Exprs.{Quantifier, MoreNames, Pattern, and_part, or_part, not_part, quantifier_part, between, Expr, ImpliesMore, Orx, OrMore, Andx, AndMore, Notx, Quant, Bound, Cmp, CmpMore, Sum, SumMore, Prim, Exprs, MoreExprs, ExprArm, MoreExprArms, Access, Steps, Step, AccessArgs}
 use Rattle.rp_grammar.specs.Exprs as grammar
-use Rattle.rp_tokens.specs.MachineStates.{is_symbol, State, want_symbol, more_names, want_pattern, want_operand, want_prim, more_and, more_or, more_implies, more_cmp, more_sum, have_bound, stopping, more_exprs, more_expr_arms, in_access, to}
-use Rattle.rp_tokens.specs.MachineExprs.{want_andx, want_orx, want_expr, want_sum, want_exprs, want_args, want_expr_arm, want_bound, access_part, comparison, compare_or, not_called, called_with, in_args}
+use Rattle.rp_tokens.specs.MachineStates.{is_symbol, State, want_symbol, more_names, want_pattern, want_operand, want_prim, more_and, more_or, more_implies, more_cmp, more_sum, stopping, more_exprs, more_expr_arms, in_access}
+use Rattle.rp_tokens.specs.MachineExprs.{want_andx, want_orx, want_expr, want_sum, want_exprs, want_expr_arm, want_bound, access_part, compare_or, not_called, called_with, in_args}
 use Rattle.rp_tokens.specs.Machine.{step}
-use Rattle.rp_tokens.proofs.Tests.{next_is, cond_false, symbol_looseness, looseness, loose, not_next, no_comparison, stops_loose}
+use Rattle.rp_tokens.proofs.Tests.{cond_false, loose, not_next, no_comparison, stops_loose}
 use Rattle.rp_tokens.proofs.Comes.{Comes, then_comes, stays, reads, same_step, no_symbol, stops_here}
-use Rattle.rp_tokens.proofs.FirstTokens.{before_implies, before_or, before_and, before_cmp, before_sum, before_exprs, before_arms, compares, calls, con_name, begins_with_prim, Opens, opens_exprs}
+use Rattle.rp_tokens.proofs.FirstTokens.{before_implies, before_or, before_and, before_cmp, before_sum, before_exprs, before_arms, compares, calls, con_name, begins_with_prim, opens_exprs}
 use Rattle.rp_tokens.proofs.AcceptsTypes.{takes_type}
 
 takes_more_names : {d : ℕ} {ts r : List Placed} {ns : List Ident} → MoreNames d ts ns r → (acc : List Ident) (k : List Ident → State) → Comes (more_names d acc k) ts (more_names d (acc ++ ns) k) r

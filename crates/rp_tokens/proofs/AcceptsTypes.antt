@@ -1,5 +1,5 @@
 -- The machine takes every type, list of parameters and replicated type of the grammar.
-use Rattle.std.proofs.Common.{◌≡◌, ℕ, suc, List, [], ◌∷◌, ◌++◌, refl, sym, ap, append_assoc, append-nil}
+use Rattle.std.proofs.Common.{ℕ, suc, List, [], ◌∷◌, ◌++◌, refl, sym, ap, append_assoc, append-nil}
 use Rattle.rp_grammar.specs.declared.terminal.Symbol.TheVariants as symbol
 use Rattle.rp_grammar.specs.Terminals.{Placed}
 use Rattle.rp_grammar.specs.Trees.{TypeTree, ParamTree, CrdtTree, CrdtForm, FieldTree, fields}
