@@ -3,6 +3,8 @@
 
 mod judge;
 mod report;
+#[cfg(test)]
+mod tests;
 mod top;
 
 use report::Status;
