@@ -2,4 +2,5 @@ pub mod CrdtViews
 pub mod ExprViews
 pub mod FirstFormLemmas
 pub mod FormulaViews
+pub mod ProgramLemmas
 pub mod StmtViews

@@ -2,6 +2,7 @@ pub mod Crdts
 pub mod Exprs
 pub mod FirstForm
 pub mod Formulas
+pub mod Limits
 pub mod ProgramView
 pub mod Programs
 pub mod Sizes
