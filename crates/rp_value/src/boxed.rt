@@ -3,6 +3,7 @@ ghost use Rattle.std.specs.Prelude.{◌≡◌, IfOk};
 use crate::memory::Memory;
 use std::alloc::Global;
 use std::marker::Model;
+use std::ops::Deref;
 
 /// A `Box` that contracts see as what it holds.
 #[derive(Debug, Drop)]
@@ -41,5 +42,46 @@ impl<T: Drop> Boxed<T> {
         Ok(Boxed {
             inner: Box::new(alloc, value)?,
         })
+    }
+}
+
+impl<T> Deref for Boxed<T> {
+    type Target = T;
+
+    ghost deref_gives = { λ b x. x ≡ b };
+
+    fn deref(&self) -> &T {
+        self.get()
+    }
+}
+
+impl<T: PartialEq> PartialEq for Boxed<T> {
+    ghost eq = { T.eq };
+
+    ghost laws = { T.laws };
+
+    fn eq(&self, other: &Self) -> bool {
+        self.get() == other.get()
+    }
+}
+
+impl<T: Eq> Eq for Boxed<T> {
+    ghost laws = { T.Eq.laws };
+}
+
+#[cfg(test)]
+mod tests {
+    use super::*;
+    use std::test::Fail;
+
+    #[test]
+    fn a_box_shows_and_gives_back_what_it_holds(rt: HostRuntime) -> Result<(), Fail> {
+        let held: Boxed<u32> = Boxed::new(rt.alloc(), 5)?;
+        assert_eq!(rt; *held.get(), 5);
+        assert_eq!(rt; *held, 5);
+        assert_eq!(rt; held, Boxed::new(rt.alloc(), 5)?);
+        assert_ne!(rt; held, Boxed::new(rt.alloc(), 6)?);
+        assert_eq!(rt; held.into_inner(), 5);
+        Ok(())
     }
 }

@@ -1,8 +1,10 @@
-ghost use Rattle.std.specs.Prelude.{◌≡◌, ◌<◌, [], ◌∷◌, ◌++◌, length, slice_get, remove, IfOk, IsTrue, MatchOption, OnErr, OnOk, ◌↔◌};
+ghost use Rattle.std.specs.Prelude.{◌≡◌, ◌<◌, [], ◌∷◌, ◌++◌, length, slice_get, vec_len, Some, IfOk, IsTrue, MatchOption, OnErr, OnOk, ◌↔◌};
+ghost use Rattle.std.specs.Cmp.Lexicographic.{pointwise, lists_per, lists_equiv};
 
 use crate::memory::Memory;
 use std::alloc::Global;
 use std::marker::Model;
+use std::ops::{DerefSlice, Index};
 
 /// A `Vec` that contracts see as the list of its elements. Each place of it fits a `u32`.
 #[derive(Debug, Drop)]
@@ -37,6 +39,14 @@ impl<T> List<T> {
         List {
             items: Vec::new(alloc),
         }
+    }
+
+    /// The list of a vector's elements. It takes no memory.
+    pub fn from_vec(items: Vec<T>) -> List<T>
+        requires few { vec_len items < 4294967295 }
+        ensures { result ≡ items.items }
+    {
+        List { items }
     }
 
     pub fn len(&self) -> usize
@@ -91,6 +101,91 @@ impl<T: Drop> List<T> {
             return Err(Memory);
         }
         self.items.push(x)?;
+        Ok(())
+    }
+}
+
+impl<T> DerefSlice for List<T> {
+    type Elem = T;
+
+    ghost deref_gives = { λ xs items. (items ≡ xs) × (length xs < 4294967295) };
+
+    fn deref(&self) -> &[T]
+        ensures items { result.now ≡ self.now }
+        ensures few { length self.now < 4294967295 }
+    {
+        self.as_slice()
+    }
+}
+
+impl<T> Index<usize> for List<T> {
+    type Output = T;
+
+    ghost can_index = { λ xs i. i < length xs };
+
+    ghost index_gives = { λ xs i x. slice_get xs i ≡ Some x };
+
+    fn index(&self, i: usize) -> &T
+        requires { i < length self.now }
+        ensures { slice_get self.now i ≡ Some result.now }
+    {
+        self.get(i)
+    }
+}
+
+impl<T: PartialEq> PartialEq for List<T> {
+    ghost eq = { λ xs ys. pointwise T.eq xs ys };
+
+    ghost laws = { lists_per T.laws };
+
+    fn eq(&self, other: &Self) -> bool {
+        self.as_slice() == other.as_slice()
+    }
+}
+
+impl<T: Eq> Eq for List<T> {
+    ghost laws = { lists_equiv T.Eq.laws };
+}
+
+/// A list of the same bytes.
+pub fn copy_bytes(alloc: Global, bytes: &[u8]) -> Result<Bytes, Memory>
+    ensures { IfOk result (λ copy. copy ≡ bytes.now) }
+{
+    if bytes.len() > MOST {
+        return Err(Memory);
+    }
+    Ok(List::from_vec(Vec::from_slice(alloc, bytes)?))
+}
+
+#[cfg(test)]
+mod tests {
+    use super::*;
+    use std::test::Fail;
+
+    #[test]
+    fn a_list_grows_and_shrinks_at_its_end(rt: HostRuntime) -> Result<(), Fail> {
+        let mut list: List<u32> = List::new(rt.alloc());
+        assert!(rt; list.is_empty());
+        list.push(4)?;
+        list.push(9)?;
+        assert_eq!(rt; list.len(), 2);
+        assert_eq!(rt; list.count(), 2);
+        assert_eq!(rt; *list.get(0), 4);
+        assert_eq!(rt; list[1], 9);
+        assert_eq!(rt; list.as_slice(), [4, 9].as_slice());
+        assert_eq!(rt; list.iter().sum::<u32>(), 13);
+        assert_eq!(rt; list.pop(), Some(9));
+        assert_eq!(rt; list.pop(), Some(4));
+        assert_eq!(rt; list.pop(), None);
+        Ok(())
+    }
+
+    #[test]
+    fn lists_are_equal_where_their_elements_are(rt: HostRuntime) -> Result<(), Fail> {
+        let bytes = copy_bytes(rt.alloc(), b"abc")?;
+        assert_eq!(rt; bytes, List::from_vec(Vec::from_slice(rt.alloc(), b"abc")?));
+        assert_ne!(rt; bytes, copy_bytes(rt.alloc(), b"abd")?);
+        assert_ne!(rt; bytes, copy_bytes(rt.alloc(), b"ab")?);
         Ok(())
     }
 }

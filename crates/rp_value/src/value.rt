@@ -1,7 +1,11 @@
-use crate::list::{Bytes, List};
+ghost use Rattle.std.specs.Prelude.{◌≡◌, IfOk, IsTrue, ◌↔◌};
+
+use crate::list::{Bytes, List, copy_bytes};
+use crate::memory::Memory;
+use std::alloc::Global;
 
 /// A value of a program. `Atom` has its type's number in a `TypeTable`, `Con` its constructor's in a `ConTable`.
-#[derive(Debug, Drop)]
+#[derive(Debug, Drop, PartialEq, Eq)]
 pub enum Value {
     Int(i128),
     Str(Bytes),
@@ -9,4 +13,117 @@ pub enum Value {
     Con { con: u32, args: List<Value> },
     Call(u32),
     Inv(u32),
+}
+
+impl Value {
+    /// Whether the values are equal. It takes no memory.
+    #[cycle(same)]
+    pub fn same(&self, other: &Value) -> bool
+        ensures { IsTrue result ↔ (self.now ≡ other.now) }
+    {
+        match (self, other) {
+            (Value::Int(a), Value::Int(b)) => a == b,
+            (Value::Str(a), Value::Str(b)) => a == b,
+            (Value::Atom { ty: s, num: a }, Value::Atom { ty: t, num: b }) => s == t && a == b,
+            (Value::Con { con: c, args: a }, Value::Con { con: d, args: b }) => c == d
+                && same_all(a.as_slice(), b.as_slice()),
+            (Value::Call(a), Value::Call(b)) => a == b,
+            (Value::Inv(a), Value::Inv(b)) => a == b,
+            _ => false,
+        }
+    }
+
+    /// An equal value.
+    #[cycle(copy)]
+    pub fn copy(&self, alloc: Global) -> Result<Value, Memory>
+        ensures { IfOk result (λ copy. copy ≡ self.now) }
+    {
+        match self {
+            Value::Int(n) => Ok(Value::Int(*n)),
+            Value::Str(bytes) => Ok(Value::Str(copy_bytes(alloc, bytes.as_slice())?)),
+            Value::Atom { ty, num } => Ok(Value::Atom { ty: *ty, num: *num }),
+            Value::Con { con, args } => Ok(Value::Con {
+                con: *con,
+                args: copy_values(alloc, args.as_slice())?,
+            }),
+            Value::Call(c) => Ok(Value::Call(*c)),
+            Value::Inv(i) => Ok(Value::Inv(*i)),
+        }
+    }
+}
+
+#[cycle(same)]
+fn same_all(a: &[Value], b: &[Value]) -> bool
+    ensures { IsTrue result ↔ (a.now ≡ b.now) }
+{
+    if a.len() != b.len() {
+        return false;
+    }
+    for i in 0..a.len() {
+        if !a[i].same(&b[i]) {
+            return false;
+        }
+    }
+    true
+}
+
+/// The list of equal values.
+#[cycle(copy)]
+pub fn copy_values(alloc: Global, values: &[Value]) -> Result<List<Value>, Memory>
+    ensures { IfOk result (λ copies. copies ≡ values.now) }
+{
+    let mut copies = List::new(alloc);
+    for value in values {
+        copies.push(value.copy(alloc)?)?;
+    }
+    Ok(copies)
+}
+
+#[cfg(test)]
+mod tests {
+    use super::*;
+    use std::test::Fail;
+
+    // the value `num` of type 2, and the text `name`, in constructor 3
+    fn pair(alloc: Global, num: u32, name: &[u8]) -> Result<Value, Memory> {
+        let mut args = List::new(alloc);
+        args.push(Value::Atom { ty: 2, num })?;
+        args.push(Value::Str(copy_bytes(alloc, name)?))?;
+        Ok(Value::Con { con: 3, args })
+    }
+
+    #[test]
+    fn a_copy_is_the_same(rt: HostRuntime) -> Result<(), Fail> {
+        let alloc = rt.alloc();
+        for value in [
+            pair(alloc, 7, b"ann")?,
+            Value::Int(-7),
+            Value::Call(1),
+            Value::Inv(1),
+        ] {
+            let copy = value.copy(alloc)?;
+            assert!(rt; value.same(&copy));
+            assert_eq!(rt; copy, value);
+        }
+        Ok(())
+    }
+
+    #[test]
+    fn values_that_differ_are_not_the_same(rt: HostRuntime) -> Result<(), Fail> {
+        let alloc = rt.alloc();
+        let value = pair(alloc, 7, b"ann")?;
+        for other in [
+            pair(alloc, 8, b"ann")?,
+            pair(alloc, 7, b"bob")?,
+            Value::Con {
+                con: 3,
+                args: List::new(alloc),
+            },
+            Value::Int(3),
+        ] {
+            assert!(rt; !value.same(&other));
+        }
+        assert!(rt; !Value::Call(1).same(&Value::Inv(1)));
+        Ok(())
+    }
 }
