@@ -11,3 +11,7 @@ pub mod Unique
 pub mod Moving
 pub mod Reading
 pub mod Places
+pub mod Tables
+pub mod Toks
+pub mod Computed
+pub mod Rows

@@ -266,7 +266,7 @@ mutual
   -- access = NAME {"." (NAME | "returned") | "[" expr "]"} ["(" [expr {"," expr}] ")"]
   pub data Access : ℕ → List Placed → Part AccessTree → List Placed → Type 0 where
     rooted : {d : ℕ} {n : List ℕ} {s : Span} {ts r u : List Placed} {xs : List (Part StepTree)} {a : Part AccessTree}
-        → Steps d ts xs r → Called d (ident n s) (trees_of xs) (reach s xs) r a u
+        → Steps d ts xs r → AccessArgs d (ident n s) (trees_of xs) (reach s xs) r a u
         → Access d (on (name n) s d ∷ ts) a u
 
   -- {"." (NAME | "returned") | "[" expr "]"}
@@ -287,11 +287,11 @@ mutual
         → Step d (on (symbol symbol.OpenBracket) o d ∷ ts) (part (StepTree.key (tree_of e)) (join o c)) r
 
   -- ["(" [expr {"," expr}] ")"] behind a root and its steps, whose extent is s
-  pub data Called : ℕ → Ident → List StepTree → Span → List Placed → Part AccessTree → List Placed → Type 0 where
+  pub data AccessArgs : ℕ → Ident → List StepTree → Span → List Placed → Part AccessTree → List Placed → Type 0 where
     not_called : {d : ℕ} {n : Ident} {xs : List StepTree} {s : Span} {r : List Placed}
-        → Called d n xs s r (part (AccessTree.path n (steps xs) ArgTrees.absent) s) r
+        → AccessArgs d n xs s r (part (AccessTree.path n (steps xs) ArgTrees.absent) s) r
     no_args : {d : ℕ} {n : Ident} {xs : List StepTree} {s o c : Span} {r : List Placed}
-        → Called d n xs s (on (symbol symbol.OpenParen) o d ∷ on (symbol symbol.CloseParen) c d ∷ r) (part (AccessTree.path n (steps xs) (ArgTrees.given (exprs []))) (join s c)) r
+        → AccessArgs d n xs s (on (symbol symbol.OpenParen) o d ∷ on (symbol symbol.CloseParen) c d ∷ r) (part (AccessTree.path n (steps xs) (ArgTrees.given (exprs []))) (join s c)) r
     some_args : {d : ℕ} {n : Ident} {xs : List StepTree} {s o c : Span} {ts r : List Placed} {es : List ExprTree}
         → Exprs (suc d) ts es (on (symbol symbol.CloseParen) c d ∷ r)
-        → Called d n xs s (on (symbol symbol.OpenParen) o d ∷ ts) (part (AccessTree.path n (steps xs) (ArgTrees.given (exprs es))) (join s c)) r
+        → AccessArgs d n xs s (on (symbol symbol.OpenParen) o d ∷ ts) (part (AccessTree.path n (steps xs) (ArgTrees.given (exprs es))) (join s c)) r

@@ -1,5 +1,7 @@
 -- How the words and symbols are written.
-use Rattle.std.specs.Prelude.{ℕ, List, [], ◌∷◌, codes}
+use Rattle.std.specs.Prelude.{ℕ, List, [], ◌∷◌, Option, codes}
+use Rattle.std.specs.List.{find}
+use Rattle.std.specs.Str.{bytes_eq}
 use Rattle.rp_grammar.specs.declared.terminal.Word.{Word}
 use Rattle.rp_grammar.specs.declared.terminal.Word.TheVariants as word
 use Rattle.rp_grammar.specs.declared.terminal.Symbol.{Symbol}
@@ -97,3 +99,11 @@ marks =
     symbol.OpenBrace ∷ symbol.CloseBrace ∷ symbol.OpenParen ∷ symbol.CloseParen ∷ symbol.OpenBracket ∷ symbol.CloseBracket ∷ symbol.Comma ∷ symbol.Semicolon
     ∷ symbol.Colon ∷ symbol.DoubleColon ∷ symbol.Dot ∷ symbol.Assign ∷ symbol.Equal ∷ symbol.NotEqual ∷ symbol.Less ∷ symbol.AtMost ∷ symbol.Greater ∷ symbol.AtLeast
     ∷ symbol.Implies ∷ symbol.Arrow ∷ symbol.And ∷ symbol.Or ∷ symbol.Not ∷ symbol.Plus ∷ symbol.Minus ∷ symbol.Bar ∷ []
+
+-- the word that these bytes spell, and the symbol that they are
+
+abbrev pub word_of : List ℕ → Option Word
+word_of bytes = find (λ w. bytes_eq (spelling w) bytes) words
+
+abbrev pub symbol_of : List ℕ → Option Symbol
+symbol_of bytes = find (λ m. bytes_eq (mark m) bytes) marks

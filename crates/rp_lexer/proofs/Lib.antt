@@ -1,1 +1,3 @@
 mod Exact
+mod Named
+mod Spelled

@@ -9,11 +9,12 @@ mod names;
 mod numbers;
 mod scan;
 mod strings;
+mod terminals;
 #[cfg(test)]
 mod tests;
 mod text;
-mod words;
 
 pub use error::LexErr;
-pub use rp_grammar::{LexFault, Token, TokenKind};
+pub use rp_grammar::{LexFault, Symbol, Token, TokenKind, Word};
+pub use terminals::{symbol_of, word_of};
 pub use text::lex;

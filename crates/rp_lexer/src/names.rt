@@ -6,7 +6,7 @@ ghost use Rattle.rp_grammar.specs.Bytes.{is_name_byte};
 ghost use Rattle.rp_grammar.specs.Scan.{name_kind};
 
 use crate::bytes::is_name_byte;
-use crate::words::is_reserved;
+use crate::terminals::word_of;
 use rp_grammar::{Piece, TokenKind};
 
 // How many bytes belong to the name, the first of which is known to.
@@ -22,15 +22,22 @@ fn name_len(rest: &[u8]) -> usize
     n
 }
 
+// Whether a name is a reserved word.
+fn word_or_name(text: &[u8]) -> TokenKind
+    ensures { result ≡ name_kind text.now }
+{
+    if word_of(text).is_some() {
+        TokenKind::Word
+    } else {
+        TokenKind::Name
+    }
+}
+
 // What a letter begins.
 pub(crate) fn name_piece(rest: &[u8]) -> Piece
     requires { 0 < length rest.now }
     ensures { let n = 1 + prefix_len is_name_byte (drop 1 rest.now) in result ≡ Piece.Token (name_kind (take n rest.now)) n }
 {
     let n = name_len(rest);
-    if is_reserved(&rest[..n]) {
-        Piece::Token(TokenKind::Word, n)
-    } else {
-        Piece::Token(TokenKind::Name, n)
-    }
+    Piece::Token(word_or_name(&rest[..n]), n)
 }

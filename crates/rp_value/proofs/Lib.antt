@@ -1,0 +1,2 @@
+pub mod ValueBack
+pub mod ValueViews

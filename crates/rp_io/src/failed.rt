@@ -1,0 +1,3 @@
+/// The one fault of files and sinks.
+#[derive(Clone, Copy, Debug, PartialEq, Eq)]
+pub struct Failed;

@@ -1,0 +1,13 @@
+-- Which item of a table some bytes name.
+use Rattle.std.specs.Prelude.{ℕ, ◌==◌, if◌then◌else◌, List, [], ◌∷◌, length, Option, Some, None}
+use Rattle.std.specs.Str.{bytes_eq}
+
+-- the first of the items whose text these bytes are
+abbrev pub named : {X : Type 0} → (X → List ℕ) → List X → List ℕ → Option X
+named text [] bs = None
+named text (x ∷ xs) bs = if bytes_eq (text x) bs then Some x else named text xs bs
+
+-- those of the items whose texts have n bytes
+abbrev pub sized : {X : Type 0} → (X → List ℕ) → ℕ → List X → List X
+sized text n [] = []
+sized text n (x ∷ xs) = if length (text x) == n then x ∷ sized text n xs else sized text n xs
