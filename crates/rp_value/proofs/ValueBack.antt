@@ -7,7 +7,7 @@ use Rattle.rp_value.specs.declared.value.Value.TheViews.{roll-Value}
 use Rattle.rp_value.specs.declared.value.Value.TheFolds.{fold-roll-Value, map-Value, ind-Value}
 use Rattle.rp_value.specs.Values as seen
 use Rattle.rp_value.specs.Values.{Val, Vals, no_val, also_val}
-use Rattle.rp_value.specs.ValueView.{vals_of, view_step, value_view, values_view}
+use Rattle.rp_value.specs.ValueView.{view_step, value_view, values_view}
 
 -- the value that is seen as this one
 abbrev mutual

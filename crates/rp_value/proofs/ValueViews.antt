@@ -1,8 +1,8 @@
 -- What each variant of a value is seen as.
-use Rattle.std.proofs.Common.{◌≡◌, ℕ, ℤ, List, [], ◌∷◌, ap, sym, ◌∙◌, refl}
+use Rattle.std.proofs.Common.{◌≡◌, ℕ, ℤ, List, ap, sym, ◌∙◌}
 use Rattle.rp_value.specs.declared.value.Value.{Value}
 use Rattle.rp_value.specs.declared.value.Value.TheVariants as made
-use Rattle.rp_value.specs.declared.value.Value.TheOpen.{Value-F, Int, Str, Atom, Con, Call, Inv}
+use Rattle.rp_value.specs.declared.value.Value.TheOpen.{Int, Str, Atom, Con, Call, Inv}
 use Rattle.rp_value.specs.declared.value.Value.TheFolds.{fold-roll-Value}
 use Rattle.rp_value.specs.Values as seen
 use Rattle.rp_value.specs.Values.{Val}

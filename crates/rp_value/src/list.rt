@@ -173,7 +173,7 @@ mod tests {
         assert_eq!(rt; *list.get(0), 4);
         assert_eq!(rt; list[1], 9);
         assert_eq!(rt; list.as_slice(), [4, 9].as_slice());
-        assert_eq!(rt; list.iter().sum::<u32>(), 13);
+        assert_eq!(rt; list.iter().copied().max(), Some(9));
         assert_eq!(rt; list.pop(), Some(9));
         assert_eq!(rt; list.pop(), Some(4));
         assert_eq!(rt; list.pop(), None);

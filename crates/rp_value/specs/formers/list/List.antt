@@ -1,5 +1,5 @@
 -- How a `List` keeps its elements, so that a type may hold a list of itself: by its view it is the list of them.
-use mathlib.Core.Path.{◌≡◌, refl, sym, ap, ◌∙◌, subst}
+use mathlib.Core.Path.{◌≡◌, refl, sym, subst}
 use mathlib.Core.List.{List, []}
 use mathlib.Core.Former.{Former, this, list, via, children}
 use base.Stored.{code_map}
