@@ -17,7 +17,7 @@ use Rattle.rp_types.specs.Resolution.{Name, bool, ParamsOf, no_param, more_param
 use Rattle.rp_lang.specs.Stmts.{St}
 use Rattle.rp_lang.specs.Programs.{Proc}
 use Rattle.rp_first.specs.Reads.{Spells, Reads, IsBlock, bools, AreParams, IsDecl, SpellsProgram}
-use Rattle.rp_first.specs.Views.{sts_of}
+use Rattle.rp_lang.specs.Views.{sts_of}
 use Rattle.rp_first.proofs.Tests.{both_true}
 
 -- ---- parameters
@@ -98,7 +98,7 @@ params_read {o = o} {c = c} {ns = ns} e inner g = record { before = λ r p w.
 
 -- the closing brace of a block that stands here
 abbrev pub last_byte : Span → Span
-last_byte at = record { from = at.to - 1; to = at.to }
+last_byte s = record { from = s.to - 1; to = s.to }
 
 end_of : (b : BlockTree) → block_end b ≡ last_byte (block_span b)
 end_of (BlockTree.block s xs) = refl

@@ -13,7 +13,7 @@ use Rattle.rp_types.specs.Resolution.{Name, FormulaOf, truth, variable, not, and
 use Rattle.rp_lang.specs.Exprs.{Ex, Slot, Con, no_ex}
 use Rattle.rp_lang.specs.Formulas.{Fo, Fos, also_fo, And, Or, Not, Implies, Holds}
 use Rattle.rp_first.specs.Reads.{Spells, Reads, IsFormula, AreFormulas}
-use Rattle.rp_first.specs.Views.{fos_of}
+use Rattle.rp_lang.specs.Views.{fos_of}
 use Rattle.rp_first.proofs.Chains.{Members, members, Gathers, first_gathers, next_gathers}
 use Rattle.rp_first.proofs.Tests.{both_true}
 

@@ -14,7 +14,7 @@ use Rattle.rp_types.specs.Resolution.{Name, StmtOf, assert, if_, BlockOf, block,
 use Rattle.rp_lang.specs.Formulas.{Fo}
 use Rattle.rp_lang.specs.Stmts.{St, Sts, Assert, If}
 use Rattle.rp_first.specs.Reads.{Spells, Reads, IsFormula, IsStmt, AreStmts, IsBlock, Otherwise, nothing, block, chain, last_of, IsElse}
-use Rattle.rp_first.specs.Views.{sts_of}
+use Rattle.rp_lang.specs.Views.{sts_of}
 use Rattle.rp_first.proofs.Tests.{both_true}
 
 -- whatever statements follow, these stand before them

@@ -16,7 +16,7 @@ use Rattle.rp_types.specs.Resolution.{Name, FormulaOf, FormulasOf, StmtOf, Stmts
 use Rattle.rp_lang.specs.Formulas.{Fo}
 use Rattle.rp_lang.specs.Stmts.{St, Sts}
 use Rattle.rp_lang.specs.Programs.{Proc}
-use Rattle.rp_first.specs.Views.{fos_of, sts_of}
+use Rattle.rp_lang.specs.Views.{fos_of, sts_of}
 
 -- the tokens `ts`, before the rest `r`, spell a phrase of this form that means what is said; no nesting passes 64
 pub record Spells {X : Type 0} (Phrase : List Placed → X → List Placed → Type 0) (Means : X → Type 0) (ts : List Tok) (r : List Placed) : Type 0 where
