@@ -3,3 +3,4 @@ pub mod Exprs
 pub mod Formulas
 pub mod Stmts
 pub mod Programs
+pub mod Views
