@@ -1,6 +1,6 @@
 pub mod Tests
 pub mod Tokens
 pub mod Chains
-pub mod Formulas
-pub mod Statements
-pub mod Declarations
+pub mod FormulaLemmas
+pub mod StatementLemmas
+pub mod DeclarationLemmas

@@ -1,6 +1,3 @@
-use Rattle.rp_first.proofs.Declarations as declarations
-use Rattle.rp_first.proofs.Statements as statements
-use Rattle.rp_first.proofs.Formulas as forms
 use Rattle.rp_first.proofs.Tokens.{next_is}
 use Rattle.rp_first.proofs.source.Source.mark.Goals as goal
 
