@@ -1,0 +1,6 @@
+pub mod Tests
+pub mod Tokens
+pub mod Chains
+pub mod FormulaLemmas
+pub mod StatementLemmas
+pub mod DeclarationLemmas

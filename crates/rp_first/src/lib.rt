@@ -1,0 +1,11 @@
+//! The reader of texts of the first form: procedures over truth values, with `assert` and `if` alone.
+#![tactic(auto)]
+
+mod body;
+mod error;
+mod formulas;
+mod mark;
+mod nodes;
+mod source;
+
+pub use error::ReadError;
