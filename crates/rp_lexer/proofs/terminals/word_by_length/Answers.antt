@@ -1,7 +1,7 @@
 use Rattle.std.proofs.Common.{◌∙◌, sym, arith, refl}
 use Rattle.rp_grammar.specs.Spelling.{spelling, words}
 use Rattle.rp_lexer.proofs.Named.{named_sized, named_within}
-use Rattle.rp_lexer.proofs.terminals.word_of_length.Goals as goal
+use Rattle.rp_lexer.proofs.terminals.word_by_length.Goals as goal
 
 pub returns-in-2 : goal.returns-in-2
 returns-in-2 c = c.word_of_2.ensures ∙ named_sized spelling 2 words c.args.text.now (omega arith)

@@ -1,7 +1,7 @@
 use Rattle.std.proofs.Common.{◌∙◌, sym, arith, refl}
 use Rattle.rp_grammar.specs.Spelling.{mark, marks}
 use Rattle.rp_lexer.proofs.Named.{named_sized, named_within}
-use Rattle.rp_lexer.proofs.terminals.symbol_of_length.Goals as goal
+use Rattle.rp_lexer.proofs.terminals.symbol_by_length.Goals as goal
 
 pub returns-in-1 : goal.returns-in-1
 returns-in-1 c = c.symbol_of_1.ensures ∙ named_sized mark 1 marks c.args.text.now (omega arith)
