@@ -1,3 +1,4 @@
 pub mod Growing
 pub mod Causes
 pub mod Putting
+pub mod Named

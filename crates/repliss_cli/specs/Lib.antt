@@ -2,3 +2,4 @@ pub mod Words
 pub mod Texts
 pub mod FirstText
 pub mod Answers
+pub mod Lines

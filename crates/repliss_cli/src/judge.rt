@@ -4,14 +4,15 @@ ghost use Rattle.std.specs.Option.{option_map_or};
 ghost use Rattle.rp_span.specs.Places.{place_of};
 ghost use Rattle.rp_lang.specs.ProgramView.{program_view};
 ghost use Rattle.repliss_cli.specs.Answers.{IsReportOf, name_at};
+ghost use Rattle.repliss_cli.specs.FirstText.{IsRead};
 ghost use Rattle.repliss_cli.specs.Lines.{line_for};
 
 use crate::report::{GoalLine, Report};
 use event_machine::false_by_trying;
-use rp_first::{ReadError, read_program};
+use crate::stub::{ReadError, read_program};
 use rp_lang::Program;
 use rp_span::{Pos, Text, line_of};
-use rp_value::{List, Memory, copy_bytes, copy_list};
+use rp_value::{List, Memory, copy_bytes};
 use rp_verify::{GoalErr, Unproved, Verdict, verify};
 use std::alloc::Global;
 
@@ -41,6 +42,17 @@ fn name_of(program: &Program, proc: Option<u32>) -> &[u8]
     }
 }
 
+/// An equal path.
+fn copy_path(alloc: Global, path: &[u32]) -> Result<List<u32>, Memory>
+    ensures { IfOk result (λ copy. copy ≡ path.now) }
+{
+    let mut copy = List::new(alloc);
+    for choice in path {
+        copy.push(*choice)?;
+    }
+    Ok(copy)
+}
+
 /// The line of an unproved goal.
 fn line_for(
     alloc: Global,
@@ -53,7 +65,7 @@ fn line_for(
     Ok(GoalLine {
         goal: goal.goal,
         proc: copy_bytes(alloc, name_of(program, goal.name.proc))?,
-        path: copy_list(alloc, goal.name.path.as_slice())?,
+        path: copy_path(alloc, goal.name.path.as_slice())?,
         at: place_in(text, goal.name.at.from),
     })
 }
@@ -76,7 +88,7 @@ fn lines_for(
 
 /// The report on a program.
 fn report_on(alloc: Global, text: &Text, program: &Program) -> Result<Report, Memory>
-    requires read { IsReadOf text.now (program_view program.now) }
+    requires read { IsRead text.now (program_view program.now) }
     requires short { length text.now ≤ 262144 }
     ensures { IfOk result (λ report. IsReportOf text.now report) }
 {

@@ -3,6 +3,7 @@
 
 mod judge;
 mod report;
+mod stub;
 #[cfg(test)]
 mod tests;
 mod top;
