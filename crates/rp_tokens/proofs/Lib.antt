@@ -6,3 +6,5 @@ pub mod AcceptsExprs
 pub mod AcceptsStmts
 pub mod AcceptsDecls
 pub mod OneTree
+pub mod Leads
+pub mod LeadsTypes
