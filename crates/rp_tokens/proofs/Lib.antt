@@ -8,3 +8,4 @@ pub mod AcceptsDecls
 pub mod OneTree
 pub mod Leads
 pub mod LeadsTypes
+pub mod LeadsExprs
