@@ -58,7 +58,7 @@ closed_back d k ts t l = then_symbol (Expr (suc d)) symbol.CloseParen refl d k t
 exprs_back : (d : ℕ) (k : List ExprTree → State) (ts : List Placed) (t : List DeclTree) → Leads (want_exprs d k) ts t → Through (Exprs d) k ts t
 exprs_back d k ts t l = let (e, r, x, (es, u, m, a)) = expr_back d (λ e. more_exprs d (tree_of e ∷ []) k) ts t l in (_, u, grammar.some_exprs x m, a)
 
-args_back : (d : ℕ) (k : List ExprTree → Span → State) (ts : List Placed) (t : List DeclTree) → Leads (want_args d k) ts t → (es : List ExprTree) × (c : Span) × (r : List Placed) × Exprs (suc d) ts es (on (symbol symbol.CloseParen) c d ∷ r) × Leads (k es c) r t
+pub args_back : (d : ℕ) (k : List ExprTree → Span → State) (ts : List Placed) (t : List DeclTree) → Leads (want_args d k) ts t → (es : List ExprTree) × (c : Span) × (r : List Placed) × Exprs (suc d) ts es (on (symbol symbol.CloseParen) c d ∷ r) × Leads (k es c) r t
 args_back d k ts t l = then_symbol (Exprs (suc d)) symbol.CloseParen refl d k ts t (exprs_back (suc d) (λ es. want_symbol symbol.CloseParen refl d (k es)) ts t l)
 
 arm_of : (d : ℕ) (k : ExprArmTree → State) (ts : List Placed) (t : List DeclTree) (p : PatternTree) (a : Span) (r : List Placed) → Pattern d ts p (on (symbol symbol.Arrow) a d ∷ r) → Through (Expr d) (λ e. k (ExprArmTree.arm p (tree_of e))) r t → Through (ExprArm d) k ts t

@@ -9,3 +9,7 @@ pub mod OneTree
 pub mod Leads
 pub mod LeadsTypes
 pub mod LeadsExprs
+pub mod LeadsTails
+pub mod LeadsStmts
+pub mod LeadsDecls
+pub mod LeadsSteps
