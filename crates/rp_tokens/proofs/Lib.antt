@@ -13,3 +13,4 @@ pub mod LeadsTails
 pub mod LeadsStmts
 pub mod LeadsDecls
 pub mod LeadsSteps
+pub mod Completes
