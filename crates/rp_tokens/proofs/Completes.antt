@@ -1,19 +1,19 @@
 -- Each state can be completed to a program, by tokens of which the first goes on with no quantifier's body.
-use Rattle.std.proofs.Common.{◌≡◌, ℕ, Bool, true, false, not, IsTrue, pos, List, [], ◌∷◌, ◌++◌, inl, inr, ◌⊎◌, Option, Some, None, length, ◌<◌, refl, sym, ap, append-nil, arith}
+use Rattle.std.proofs.Common.{◌≡◌, ℕ, true, IsTrue, List, [], ◌∷◌, inl, inr, ◌⊎◌, Some, None, length, ◌<◌, refl, sym, ap, append-nil, arith}
 use Rattle.rp_span.specs.declared.Span.{Span}
 use Rattle.rp_grammar.specs.declared.terminal.Word.TheVariants as word
 use Rattle.rp_grammar.specs.declared.terminal.Symbol.TheVariants as symbol
-use Rattle.rp_grammar.specs.Terminals.{name, word, int, symbol, end, Tok, at, Placed, on}
+use Rattle.rp_grammar.specs.Terminals.{name, word, int, symbol, end, Tok, Placed, on}
 use Rattle.rp_grammar.specs.Trees.{Ident, ident, TypeTree, TypeForm, CrdtTree, CrdtForm, PatternTree, ExprTree, ExprForm, DeclTree}
 use Rattle.rp_grammar.specs.Parts.{Part, built}
 use Rattle.rp_grammar.specs.Types as types
 use Rattle.rp_grammar.specs.Exprs.{stops, and_part, or_part, quantifier_part, Expr}
 use Rattle.rp_grammar.specs.Exprs as exprs
 use Rattle.rp_grammar.specs.Decls as decls
-use Rattle.rp_tokens.specs.MachineStates.{State, finished, want_symbol, want_name, want_int, if_symbol, if_word, if_name, want_type, more_params, want_crdt, more_fields, more_names, want_pattern, want_operand, want_prim, more_and, more_or, more_implies, more_cmp, more_sum, have_bound, stopping, more_exprs, more_expr_arms, in_access, in_stmts, more_if, in_block_arms, more_cons, in_decls, Move, to}
+use Rattle.rp_tokens.specs.MachineStates.{State, finished, want_symbol, want_name, want_int, if_symbol, if_word, if_name, want_type, more_params, want_crdt, more_fields, more_names, want_pattern, want_operand, want_prim, more_and, more_or, more_implies, more_cmp, more_sum, have_bound, stopping, more_exprs, more_expr_arms, in_access, in_stmts, more_if, in_block_arms, more_cons, in_decls, to}
 use Rattle.rp_tokens.specs.MachineExprs.{not_called}
 use Rattle.rp_tokens.specs.MachineStmts.{alone}
-use Rattle.rp_tokens.specs.Machine.{step, Outcome, done, stuck, ended}
+use Rattle.rp_tokens.specs.Machine.{step, done, stuck, ended}
 use Rattle.rp_tokens.proofs.Leads.{next, next_name, next_int, last_one, Leads}
 use Rattle.rp_tokens.proofs.LeadsTypes.{no_more_params, no_more_fields}
 use Rattle.rp_tokens.proofs.LeadsExprs.{no_more_names}

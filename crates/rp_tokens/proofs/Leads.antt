@@ -5,7 +5,7 @@ use Rattle.rp_grammar.specs.declared.terminal.Word.{Word}
 use Rattle.rp_grammar.specs.declared.terminal.Symbol.{Symbol}
 use Rattle.rp_grammar.specs.declared.terminal.Symbol.TheVariants as symbol
 use Rattle.rp_grammar.specs.Terminals.{Terminal, name, word, int, symbol, Placed, on}
-use Rattle.rp_grammar.specs.Trees.{Ident, ident, TypeTree, ParamTree, CrdtTree, FieldTree, PatternTree, ExprTree, ExprArmTree, AccessTree, StepTree, BlockTree, StmtTree, BlockArmTree, ConTree, DeclTree}
+use Rattle.rp_grammar.specs.Trees.{Ident, ident, TypeTree, ParamTree, CrdtTree, FieldTree, PatternTree, ExprTree, ExprArmTree, AccessTree, StepTree, StmtTree, BlockArmTree, ConTree, DeclTree}
 use Rattle.rp_grammar.specs.Parts.{Part, trees_of, reach}
 use Rattle.rp_grammar.specs.Types.{TypePhrase, MoreParams, Crdt, MoreFields}
 use Rattle.rp_grammar.specs.Exprs.{MoreNames, Pattern, Quantifier, quantifier_part, and_part, or_part, goes_on, stops, Expr, ImpliesMore, OrMore, AndMore, Notx, Bound, CmpMore, SumMore, Prim, MoreExprs, MoreExprArms, Steps, AccessArgs}

@@ -5,18 +5,17 @@ use Rattle.rp_grammar.specs.declared.terminal.Word.{Word}
 use Rattle.rp_grammar.specs.declared.terminal.Word.TheVariants as word
 use Rattle.rp_grammar.specs.declared.terminal.Symbol.TheVariants as symbol
 use Rattle.rp_grammar.specs.Terminals.{Terminal, name, word, symbol, end, Placed, on}
-use Rattle.rp_grammar.specs.Trees.{Ident, ident, TypeTree, ParamTree, ExprTree, BlockTree, ConTree, QueryTree, ProcTree, DeclForm, DeclTree}
-use Rattle.rp_grammar.specs.Parts.{join, Part, tree_of}
-use Rattle.rp_grammar.specs.Types.{TypePhrase, Params, ParamList}
+use Rattle.rp_grammar.specs.Trees.{ident, TypeTree, ParamTree, ConTree, QueryTree, ProcTree, DeclForm, DeclTree}
+use Rattle.rp_grammar.specs.Parts.{join, tree_of}
+use Rattle.rp_grammar.specs.Types.{Params, ParamList}
 use Rattle.rp_grammar.specs.Exprs.{Expr}
-use Rattle.rp_grammar.specs.Stmts.{block_span, Block}
+use Rattle.rp_grammar.specs.Stmts.{block_span}
 use Rattle.rp_grammar.specs.Decls.{Con, MoreCons, ResultType, Decl, Program}
 use Rattle.rp_grammar.specs.Decls as grammar
-use Rattle.rp_tokens.specs.MachineStates.{State, finished, want_symbol, want_type, more_cons, in_decls, Move}
-use Rattle.rp_tokens.specs.MachineTypes.{want_params, want_param_list}
+use Rattle.rp_tokens.specs.MachineStates.{State, want_symbol, want_type, more_cons, in_decls}
 use Rattle.rp_tokens.specs.MachineStmts.{want_sentence, want_block}
-use Rattle.rp_tokens.specs.MachineDecls.{want_con, want_cons, in_result, in_type, in_datatype, in_crdt, in_query, in_claim, in_invariant, in_proc, decl_word, decls_step}
-use Rattle.rp_tokens.proofs.Leads.{Next, next, NextName, next_name, Leads, Through, Back, weaken, then_symbol}
+use Rattle.rp_tokens.specs.MachineDecls.{want_con, in_result, in_type, in_datatype, in_crdt, in_query, in_invariant, in_proc, decl_word, decls_step}
+use Rattle.rp_tokens.proofs.Leads.{next, next_name, Leads, Through, Back, weaken, then_symbol}
 use Rattle.rp_tokens.proofs.LeadsTypes.{params_back, param_list_back}
 use Rattle.rp_tokens.proofs.LeadsExprs.{in_expr_back}
 use Rattle.rp_tokens.proofs.LeadsStmts.{sentence_back, block_back}

@@ -1,21 +1,20 @@
 -- What leads on behind the tokens of expressions, accesses and patterns leads on from before them.
-use Rattle.std.proofs.Common.{◌≡◌, ℕ, suc, List, [], ◌∷◌, ◌++◌, inl, inr, pos, neg_ℤ, Option, Some, None, refl, sym, subst, append_assoc, append-nil}
+use Rattle.std.proofs.Common.{ℕ, suc, List, [], ◌∷◌, ◌++◌, inl, inr, pos, neg_ℤ, refl, sym, subst, append_assoc, append-nil}
 use Rattle.rp_span.specs.declared.Span.{Span}
 use Rattle.rp_grammar.specs.declared.operator.CallWord.{CallWord}
-use Rattle.rp_grammar.specs.declared.operator.CompareOp.{CompareOp}
 use Rattle.rp_grammar.specs.declared.terminal.Word.{Word}
 use Rattle.rp_grammar.specs.declared.terminal.Word.TheVariants as word
 use Rattle.rp_grammar.specs.declared.terminal.Symbol.{Symbol}
 use Rattle.rp_grammar.specs.declared.terminal.Symbol.TheVariants as symbol
 use Rattle.rp_grammar.specs.Terminals.{Terminal, name, word, int, str, symbol, end, Placed, on}
-use Rattle.rp_grammar.specs.Trees.{Ident, ident, TypeTree, PatternTree, ExprTree, ExprForm, ExprArmTree, AccessTree, StepTree, exprs, expr_arms, DeclTree}
-use Rattle.rp_grammar.specs.Parts.{join, Part, part, tree_of, extent_of, trees_of, reach, built, in_parens}
+use Rattle.rp_grammar.specs.Trees.{Ident, ident, TypeTree, PatternTree, ExprTree, ExprForm, ExprArmTree, exprs, expr_arms, DeclTree}
+use Rattle.rp_grammar.specs.Parts.{join, Part, tree_of, built, in_parens}
 use Rattle.rp_grammar.specs.Exprs.{Quantifier, quantifier_part, not_part, between, and_part, or_part, ConName, Compares, Calls, MoreNames, Pattern, Expr, ImpliesMore, Orx, OrMore, Andx, AndMore, Notx, Quant, Bound, Cmp, CmpMore, Sum, SumMore, Prim, Exprs, MoreExprs, ExprArm, MoreExprArms, Access, Steps, Step, AccessArgs}
 use Rattle.rp_grammar.specs.Types.{TypePhrase}
 use Rattle.rp_grammar.specs.Exprs as grammar
-use Rattle.rp_tokens.specs.MachineStates.{ident_span, State, want_symbol, want_name, want_int, want_pattern, want_operand, want_prim, more_names, more_and, more_or, more_implies, more_cmp, more_sum, have_bound, stopping, more_exprs, more_expr_arms, in_access, Move}
-use Rattle.rp_tokens.specs.MachineExprs.{in_pattern, pattern_word, pattern_step, want_andx, want_expr, want_sum, want_closed, want_parens, want_exprs, want_args, want_expr_arm, want_expr_arms, want_bound, want_quant, access_part, in_expr, want_call, want_match, prim_word, prim_symbol, prim_step, cmp_step, operand_word, operand_symbol, operand_step, comparison, comparison_symbol, compare_or, want_step, want_key, called_with, not_called, in_args, access_symbol, access_or}
-use Rattle.rp_tokens.proofs.Leads.{next, next_name, next_int, BoundMore, last_one, next_one, AccessMore, accessed, Leads, Through, Back, weaken, then_symbol}
+use Rattle.rp_tokens.specs.MachineStates.{ident_span, State, want_symbol, want_name, want_int, want_prim, more_names, more_cmp, more_sum, have_bound, stopping, more_exprs, more_expr_arms, in_access}
+use Rattle.rp_tokens.specs.MachineExprs.{in_pattern, pattern_word, pattern_step, want_andx, want_expr, want_sum, want_closed, want_parens, want_exprs, want_args, want_expr_arm, want_expr_arms, want_bound, want_quant, access_part, in_expr, want_call, want_match, prim_word, prim_symbol, prim_step, cmp_step, operand_word, operand_symbol, operand_step}
+use Rattle.rp_tokens.proofs.Leads.{next, next_name, next_int, BoundMore, last_one, next_one, accessed, Leads, Through, Back, weaken, then_symbol}
 
 -- patterns
 

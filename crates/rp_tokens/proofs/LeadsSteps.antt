@@ -1,10 +1,10 @@
 -- What leads on from the state behind a token leads on from before it.
-use Rattle.std.proofs.Common.{◌≡◌, ℕ, Bool, true, false, not, cond, IsTrue, List, [], ◌∷◌, ◌++◌, inl, inr, Option, Some, None, refl, sym}
+use Rattle.std.proofs.Common.{◌≡◌, ℕ, Bool, true, false, cond, inl, inr, Option, Some, None, refl}
 use Rattle.rp_span.specs.declared.Span.{Span}
 use Rattle.rp_grammar.specs.declared.terminal.Word.TheVariants as word
 use Rattle.rp_grammar.specs.declared.terminal.Symbol.TheVariants as symbol
-use Rattle.rp_grammar.specs.Terminals.{Terminal, name, word, int, symbol, Placed, on}
-use Rattle.rp_grammar.specs.Trees.{Ident, ident, DeclTree}
+use Rattle.rp_grammar.specs.Terminals.{Terminal, name, int}
+use Rattle.rp_grammar.specs.Trees.{Ident, ident}
 use Rattle.rp_grammar.specs.Exprs.{goes_on, stops, and_part, or_part}
 use Rattle.rp_grammar.specs.Exprs as exprs
 use Rattle.rp_tokens.specs.MachineStates.{State, finished, want_symbol, want_name, want_int, if_symbol, if_word, if_name, want_type, more_params, want_crdt, more_fields, more_names, want_pattern, want_operand, want_prim, more_and, more_or, more_implies, more_cmp, more_sum, have_bound, stopping, more_exprs, more_expr_arms, in_access, in_stmts, more_if, in_block_arms, more_cons, in_decls, Move, to, name_step, name_or}

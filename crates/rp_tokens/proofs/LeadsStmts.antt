@@ -1,5 +1,5 @@
 -- What leads on behind the tokens of statements leads on from before them.
-use Rattle.std.proofs.Common.{◌≡◌, ℕ, suc, List, [], ◌∷◌, ◌++◌, inl, inr, Option, Some, None, refl, sym, subst, append_assoc, append-nil}
+use Rattle.std.proofs.Common.{ℕ, suc, List, [], ◌∷◌, ◌++◌, inl, inr, Some, refl, sym, subst, append_assoc, append-nil}
 use Rattle.rp_span.specs.declared.Span.{Span}
 use Rattle.rp_grammar.specs.declared.terminal.Word.{Word}
 use Rattle.rp_grammar.specs.declared.terminal.Word.TheVariants as word
@@ -11,7 +11,7 @@ use Rattle.rp_grammar.specs.Exprs.{Pattern, Expr}
 use Rattle.rp_grammar.specs.Exprs as exprs
 use Rattle.rp_grammar.specs.Stmts.{stmt_span, block_span, Block, Stmts, Stmt, IfStmt, Else, BlockArms}
 use Rattle.rp_grammar.specs.Stmts as grammar
-use Rattle.rp_tokens.specs.MachineStates.{State, want_symbol, in_stmts, more_if, in_block_arms, Move}
+use Rattle.rp_tokens.specs.MachineStates.{State, want_symbol, in_stmts, more_if, in_block_arms}
 use Rattle.rp_tokens.specs.MachineExprs.{pattern_step}
 use Rattle.rp_tokens.specs.MachineStmts.{want_block, want_sentence, in_if, want_else, alone, in_named, in_var, in_match, in_return, stmt_word, stmt_step, in_block_arm}
 use Rattle.rp_tokens.proofs.Leads.{next, next_name, accessed, Leads, Through, Back, weaken, then_symbol}

@@ -1,19 +1,18 @@
 -- The tails of expressions and accesses: a further member, or none.
-use Rattle.std.proofs.Common.{◌≡◌, ℕ, suc, List, [], ◌∷◌, ◌++◌, inl, inr, Option, Some, None, refl, sym, subst, append_assoc, append-nil}
+use Rattle.std.proofs.Common.{ℕ, suc, List, [], ◌∷◌, ◌++◌, inl, inr, Option, refl, sym, subst, append_assoc, append-nil}
 use Rattle.rp_span.specs.declared.Span.{Span}
 use Rattle.rp_grammar.specs.declared.operator.CompareOp.{CompareOp}
 use Rattle.rp_grammar.specs.declared.operator.CompareOp.TheVariants as compare
-use Rattle.rp_grammar.specs.declared.terminal.Word.TheVariants as word
 use Rattle.rp_grammar.specs.declared.terminal.Symbol.{Symbol}
 use Rattle.rp_grammar.specs.declared.terminal.Symbol.TheVariants as symbol
 use Rattle.rp_grammar.specs.Terminals.{Terminal, symbol, Placed, on}
 use Rattle.rp_grammar.specs.Trees.{Ident, ident, ExprTree, ExprForm, ExprArmTree, AccessTree, StepTree, DeclTree}
-use Rattle.rp_grammar.specs.Parts.{join, Part, part, tree_of, extent_of, trees_of, reach}
+use Rattle.rp_grammar.specs.Parts.{join, Part, tree_of, extent_of, trees_of, reach}
 use Rattle.rp_grammar.specs.Exprs.{between, and_part, or_part, Compares, Expr, Step, AccessArgs}
 use Rattle.rp_grammar.specs.Exprs as grammar
 use Rattle.rp_tokens.specs.MachineStates.{State, want_symbol, want_operand, want_prim, more_and, more_or, more_implies, more_cmp, more_sum, more_exprs, more_expr_arms, in_access, Move}
-use Rattle.rp_tokens.specs.MachineExprs.{want_andx, want_expr, want_sum, want_args, want_expr_arm, comparison, comparison_symbol, compare_or, want_step, want_key, called_with, not_called, in_args, access_symbol, access_or}
-use Rattle.rp_tokens.proofs.Leads.{next, next_name, AccessMore, accessed, Leads, Through, Back, then_symbol}
+use Rattle.rp_tokens.specs.MachineExprs.{want_andx, want_expr, want_sum, want_expr_arm, comparison, comparison_symbol, compare_or, want_step, want_key, called_with, not_called, in_args, access_symbol, access_or}
+use Rattle.rp_tokens.proofs.Leads.{next, next_name, AccessMore, accessed, Leads, Back, then_symbol}
 use Rattle.rp_tokens.proofs.LeadsExprs.{andx_back, expr_back, sum_back, args_back, arm_back}
 
 pub more_and_back : (d : ℕ) (e : Part ExprTree) (es : List (Part ExprTree)) (k : Part ExprTree → State) (v : Span) (ts : List Placed) (t : List DeclTree) → Leads (want_operand d (λ f. more_and d e (es ++ f ∷ []) k)) ts t → Leads (more_and d e es k) (on (symbol symbol.And) v d ∷ ts) t

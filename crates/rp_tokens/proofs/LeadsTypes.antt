@@ -1,5 +1,5 @@
 -- What leads on behind the tokens of types leads on from before them.
-use Rattle.std.proofs.Common.{◌≡◌, ℕ, suc, List, [], ◌∷◌, ◌++◌, inl, inr, Some, None, refl, sym, subst, append_assoc, append-nil}
+use Rattle.std.proofs.Common.{ℕ, suc, List, [], ◌∷◌, ◌++◌, inl, inr, refl, sym, subst, append_assoc, append-nil}
 use Rattle.rp_span.specs.declared.Span.{Span}
 use Rattle.rp_grammar.specs.declared.terminal.Word.{Word}
 use Rattle.rp_grammar.specs.declared.terminal.Word.TheVariants as word
@@ -10,9 +10,9 @@ use Rattle.rp_grammar.specs.Trees.{TypeTree, TypeForm, ParamTree, CrdtTree, Crdt
 use Rattle.rp_grammar.specs.Parts.{join}
 use Rattle.rp_grammar.specs.Types.{TypePhrase, Param, MoreParams, Params, ParamList, Crdt, Field, MoreFields}
 use Rattle.rp_grammar.specs.Types as types
-use Rattle.rp_tokens.specs.MachineStates.{State, want_symbol, want_type, more_params, want_crdt, more_fields}
-use Rattle.rp_tokens.specs.MachineTypes.{want_param, want_params, in_param_list, want_param_list, want_element, type_word, type_step, want_field, want_entry, want_struct, crdt_word, crdt_symbol, crdt_step}
-use Rattle.rp_tokens.proofs.Leads.{Next, next, next_name, Leads, Through, Back, then_symbol}
+use Rattle.rp_tokens.specs.MachineStates.{State, want_symbol, more_params, more_fields}
+use Rattle.rp_tokens.specs.MachineTypes.{want_param, want_params, want_param_list, want_element, type_word, type_step, want_field, want_entry, crdt_word, crdt_symbol, crdt_step}
+use Rattle.rp_tokens.proofs.Leads.{next, next_name, Leads, Through, Back, then_symbol}
 
 pub param_back : (d : ℕ) (k : ParamTree → State) (ts : List Placed) (t : List DeclTree) → Leads (want_param d k) ts t → Through (Param d) k ts t
 param_back d k ts t (n, r, next_name, (c, u, next, (x, w, p, l))) = (_, w, types.param p, l)

@@ -14,3 +14,4 @@ pub mod LeadsStmts
 pub mod LeadsDecls
 pub mod LeadsSteps
 pub mod Completes
+pub mod Places
