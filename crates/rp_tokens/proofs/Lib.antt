@@ -15,3 +15,4 @@ pub mod LeadsDecls
 pub mod LeadsSteps
 pub mod Completes
 pub mod Places
+pub mod Bounded
