@@ -16,3 +16,4 @@ pub mod LeadsSteps
 pub mod Completes
 pub mod Places
 pub mod Bounded
+pub mod OneAnswer
