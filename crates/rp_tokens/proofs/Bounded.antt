@@ -1,5 +1,5 @@
 -- Single steps of a run with a bound of depth, for a reader that is proved against it.
-use Rattle.std.proofs.Common.{◌≡◌, ℕ, ◌<◌, ◌≤◌, Bool, true, false, cond, List, [], ◌∷◌, ◌++◌, Option, Some, None, refl, ap, ◌∙◌, if◌then◌else◌}
+use Rattle.std.proofs.Common.{◌≡◌, ℕ, ◌<◌, ◌≤◌, Bool, true, false, cond, List, [], ◌∷◌, ◌++◌, Option, Some, None, refl, sym, ap, ◌∙◌, if◌then◌else◌}
 use Rattle.std.proofs.lemmas.Slice.Eq.{bytes_eq-Decides}
 use Rattle.rp_span.specs.declared.Span.{Span}
 use Rattle.rp_grammar.specs.declared.operator.CompareOp.{CompareOp}
@@ -9,12 +9,12 @@ use Rattle.rp_grammar.specs.declared.terminal.Symbol.{Symbol}
 use Rattle.rp_grammar.specs.declared.terminal.Symbol.TheVariants as symbol
 use Rattle.rp_grammar.specs.Spelling.{spelling, mark}
 use Rattle.rp_grammar.specs.Terminals.{Terminal, word, symbol, Tok, at}
-use Rattle.rp_grammar.specs.Trees.{Ident, ParamTree, FieldTree, ExprTree, ExprArmTree, AccessTree, StepTree, BlockTree, StmtTree, ConTree}
+use Rattle.rp_grammar.specs.Trees.{Ident, ParamTree, FieldTree, PatternTree, ExprTree, ExprArmTree, AccessTree, StepTree, BlockTree, StmtTree, BlockArmTree, ConTree}
 use Rattle.rp_grammar.specs.Parts.{Part}
 use Rattle.rp_grammar.specs.Exprs.{goes_on, and_part, or_part}
-use Rattle.rp_tokens.specs.MachineStates.{is_symbol, is_word, State, if_symbol, if_word, more_params, more_fields, more_names, more_and, more_or, more_implies, more_cmp, more_sum, stopping, more_exprs, more_expr_arms, in_access, in_stmts, more_if, more_cons, Move, to, or_else}
-use Rattle.rp_tokens.specs.MachineExprs.{comparison, compare_or, not_called, access_symbol, access_or}
-use Rattle.rp_tokens.specs.MachineStmts.{alone, stmt_step}
+use Rattle.rp_tokens.specs.MachineStates.{is_symbol, is_word, State, if_symbol, if_word, more_params, more_fields, more_names, want_pattern, want_operand, want_prim, more_and, more_or, more_implies, more_cmp, more_sum, stopping, more_exprs, more_expr_arms, in_access, in_stmts, more_if, in_block_arms, more_cons, Move, to, or_else}
+use Rattle.rp_tokens.specs.MachineExprs.{pattern_step, prim_step, cmp_step, operand_word, operand_symbol, operand_step, comparison, compare_or, not_called, access_symbol, access_or}
+use Rattle.rp_tokens.specs.MachineStmts.{alone, stmt_step, in_block_arm}
 use Rattle.rp_tokens.specs.Machine.{step, ended, stuck, whole, deep, bounded}
 use Rattle.rp_tokens.proofs.Tests.{symbol_is, word_is, cond_false}
 use Rattle.rp_tokens.proofs.Places.{bound, is_le, is_gt}
@@ -152,3 +152,36 @@ end_if m d s e b k us h = no_word m word.Else us _ _ _ refl h (λ x v. refl)
 
 pub end_cons : (m : ℕ) (cs : List ConTree) (k : List ConTree → State) (us : List Tok) → next_is symbol.Bar us ≡ false → bounded m (more_cons cs k) us ≡ bounded m (k cs) us
 end_cons m cs k us h = no_symbol m symbol.Bar us _ _ _ refl h (λ x v. refl)
+
+-- a token that begins no pattern ends the arms of a statement
+pub end_block_arms : (m d : ℕ) (as_ : List BlockArmTree) (k : List BlockArmTree → State) (x : Terminal) (v : Span) (us : List Tok) → pattern_step d (λ p. in_block_arm d (λ b. in_block_arms d (as_ ++ BlockArmTree.arm p b ∷ []) k)) x v ≡ None → bounded m (in_block_arms d as_ k) (at x v ∷ us) ≡ bounded m (k as_) (at x v ∷ us)
+end_block_arms m d as_ k x v us h = same_step m (in_block_arms d as_ k) (k as_) x v us (ap (λ o. or_else o (step (k as_) x v)) h)
+
+-- a token that begins one is its first
+pub arm_first : (m d : ℕ) (as_ : List BlockArmTree) (k : List BlockArmTree → State) (n : Move) (x : Terminal) (v : Span) (us : List Tok) → pattern_step d (λ p. in_block_arm d (λ b. in_block_arms d (as_ ++ BlockArmTree.arm p b ∷ []) k)) x v ≡ Some n → bounded m (in_block_arms d as_ k) (at x v ∷ us) ≡ bounded m (want_pattern d (λ p. in_block_arm d (λ b. in_block_arms d (as_ ++ BlockArmTree.arm p b ∷ []) k))) (at x v ∷ us)
+arm_first m d as_ k n x v us h =
+    let arm : PatternTree → State = λ p. in_block_arm d (λ b. in_block_arms d (as_ ++ BlockArmTree.arm p b ∷ []) k) in
+    same_step m (in_block_arms d as_ k) (want_pattern d arm) x v us (ap (λ o. or_else o (step (k as_) x v)) h ∙ sym h)
+
+operand_symbol_cmp : (d : ℕ) (k : Part ExprTree → State) (y : Symbol) (v : Span) → is_symbol symbol.Not (symbol y) ≡ false → operand_symbol d k y v ≡ cmp_step d k (symbol y) v
+operand_symbol_cmp d k symbol.Not v h = absurd (cc h)
+operand_symbol_cmp d k _ v h = refl
+
+operand_word_cmp : (d : ℕ) (k : Part ExprTree → State) (w : Word) (v : Span) → is_word word.Forall (word w) ≡ false → is_word word.Exists (word w) ≡ false → operand_word d k w v ≡ cmp_step d k (word w) v
+operand_word_cmp d k word.Forall v h i = absurd (cc h)
+operand_word_cmp d k word.Exists v h i = absurd (cc i)
+operand_word_cmp d k _ v h i = refl
+
+operand_cmp : (d : ℕ) (k : Part ExprTree → State) (x : Terminal) (v : Span) → is_symbol symbol.Not x ≡ false → is_word word.Forall x ≡ false → is_word word.Exists x ≡ false → operand_step d k x v ≡ cmp_step d k x v
+operand_cmp d k (symbol y) v h i j = operand_symbol_cmp d k y v h
+operand_cmp d k (word w) v h i j = operand_word_cmp d k w v i j
+operand_cmp d k _ v h i j = refl
+
+-- an operand that is neither negated nor quantified is a comparison
+pub cmp_first : (m d : ℕ) (k : Part ExprTree → State) (us : List Tok) → next_is symbol.Not us ≡ false → next_word word.Forall us ≡ false → next_word word.Exists us ≡ false → bounded m (want_operand d k) us ≡ bounded m (want_prim d (λ a. more_sum d a (λ b. more_cmp d b k))) us
+cmp_first m d k [] h i j = refl
+cmp_first m d k (at x v ∷ us) h i j = same_step m (want_operand d k) (want_prim d (λ a. more_sum d a (λ b. more_cmp d b k))) x v us (operand_cmp d k x v h i j)
+
+-- an operand that isn't there is none of either kind
+pub no_operand : (d : ℕ) (k : Part ExprTree → State) (x : Terminal) (v : Span) → is_symbol symbol.Not x ≡ false → is_word word.Forall x ≡ false → is_word word.Exists x ≡ false → prim_step d (λ a. more_sum d a (λ b. more_cmp d b k)) x v ≡ None → operand_step d k x v ≡ None
+no_operand d k x v h i j e = operand_cmp d k x v h i j ∙ e
