@@ -6,3 +6,14 @@ pub mod AcceptsExprs
 pub mod AcceptsStmts
 pub mod AcceptsDecls
 pub mod OneTree
+pub mod Leads
+pub mod LeadsTypes
+pub mod LeadsExprs
+pub mod LeadsTails
+pub mod LeadsStmts
+pub mod LeadsDecls
+pub mod LeadsSteps
+pub mod Completes
+pub mod Places
+pub mod Bounded
+pub mod OneAnswer
