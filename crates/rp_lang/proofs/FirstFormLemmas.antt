@@ -1,5 +1,5 @@
 -- The tests of the first form at lists of parts, as the code makes them.
-use Rattle.std.proofs.Common.{◌≡◌, ℕ, ◌&&◌, nat_eq, nat_lt, nat_le, List, [], ◌∷◌, length, ap, ◌∙◌, refl, arith}
+use Rattle.std.proofs.Common.{◌≡◌, ℕ, ◌&&◌, nat_eq, nat_lt, nat_le, List, [], ◌∷◌, length, ap, ◌∙◌, arith}
 use Rattle.rp_lang.specs.declared.expr.Expr.{Expr}
 use Rattle.rp_lang.specs.declared.expr.Expr.TheVariants as made
 use Rattle.rp_lang.specs.declared.formula.Formula.{Formula}

@@ -1,11 +1,9 @@
 -- What a program over truth values has.
-use Rattle.std.proofs.Common.{◌≡◌, ℕ, ◌≤◌, Bool, true, false, ◌&&◌, ◌==◌, nat_le, is_none, IsTrue, List, [], ◌∷◌, Option, Some, None, zero, suc, length, map, slice_get, arith}
+use Rattle.std.proofs.Common.{◌≡◌, ℕ, ◌≤◌, Bool, true, false, ◌&&◌, ◌==◌, nat_le, is_none, IsTrue, List, [], ◌∷◌, Some, zero, suc, length, map, slice_get, arith}
 use Rattle.std.specs.List.{list_all}
-use Rattle.rp_value.specs.declared.tables.Ty.{Ty}
-use Rattle.rp_value.specs.declared.tables.Ty.TheVariants.{Datatype}
 use Rattle.rp_lang.specs.declared.proc.ProcDecl.{ProcDecl}
 use Rattle.rp_lang.specs.declared.program.Program.{Program}
-use Rattle.rp_lang.specs.FirstForm.{is_bool, has_bool_slots, has_few_statements, are_checking, is_over_truth_values, are_distinct, names, are_over_truth_values, over_truth_values, IsFirstForm}
+use Rattle.rp_lang.specs.FirstForm.{is_bool, has_bool_slots, has_few_statements, are_checking, is_over_truth_values, are_distinct, names, are_over_truth_values, IsFirstForm}
 use Rattle.rp_lang.specs.Programs.{Proc}
 use Rattle.rp_lang.specs.Sizes.{sts_count}
 use Rattle.rp_lang.specs.Views.{root_view, inv_view, proc_view}

@@ -1,5 +1,5 @@
 -- What definitions speak of, of the types of the program's code.
-use Rattle.std.specs.Prelude.{ℕ, List, [], ◌∷◌, map, Option, Some, None}
+use Rattle.std.specs.Prelude.{ℕ, List, [], ◌∷◌, map, Some, None}
 use Rattle.rp_span.specs.declared.Span.{Span}
 use Rattle.rp_lang.specs.declared.crdt.Crdt.{Crdt}
 use Rattle.rp_lang.specs.declared.crdt.Field.{Field}

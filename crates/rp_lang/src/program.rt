@@ -93,3 +93,6 @@ fn bool_cons(alloc: Global) -> Result<ConTable, Memory>
     })?;
     Ok(ConTable { cons })
 }
+
+#[cfg(test)]
+mod tests;
