@@ -1,16 +1,15 @@
 -- A walk finds the false goals, with their names.
-use Rattle.std.proofs.Common.{◌≡◌, ℕ, zero, suc, ◌+◌, Bool, true, false, ◌&&◌, ◌||◌, not, cond, List, [], ◌∷◌, ◌++◌, length, map, filter, refl, sym, ◌∙◌, ap, arith, append_assoc, append-nil}
+use Rattle.std.proofs.Common.{◌≡◌, ℕ, ◌+◌, Bool, true, false, ◌&&◌, ◌||◌, not, cond, List, [], ◌∷◌, ◌++◌, length, map, filter, refl, sym, ◌∙◌, ap, arith, append_assoc}
 use Rattle.std.specs.Bool.{if◌then◌else◌}
 use Rattle.std.specs.List.{list_any, list_all}
 use Rattle.std.proofs.lemmas.List.{length-append, map-append}
 use Rattle.std.proofs.lemmas.List.Folds.{list_all-append}
 use Rattle.rp_span.specs.declared.Span.{Span}
 use Rattle.rp_lang.specs.Formulas.{Fo}
-use Rattle.rp_lang.specs.Programs.{Proc}
-use Rattle.event_machine.specs.Code.{Code, Done, Assert, Choose, codes}
+use Rattle.event_machine.specs.Code.{Code, Done, Assert, Choose}
 use Rattle.event_machine.specs.Truth.{truth}
-use Rattle.event_machine.specs.Goals.{Choice, Goal, branch, path, chosen, code_goals, proc_goals, goals_from, slots_of}
-use Rattle.event_machine.specs.Tests.{all_values, same_truth, as_chosen, follows, is_false}
+use Rattle.event_machine.specs.Goals.{Choice, Goal, branch, chosen, code_goals, slots_of}
+use Rattle.event_machine.specs.Tests.{all_values, as_chosen, follows, is_false}
 use Rattle.rp_verify.specs.declared.verdict.Unproved.{Unproved}
 use Rattle.rp_verify.specs.Counted.{assertions}
 use Rattle.rp_verify.specs.Rows.{holds, fails}

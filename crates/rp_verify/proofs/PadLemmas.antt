@@ -1,5 +1,5 @@
 -- A formula has one truth at rows that differ only behind the parameters, by values that are `false`.
-use Rattle.std.proofs.Common.{◌≡◌, ℕ, zero, suc, Bool, true, false, ◌&&◌, ◌||◌, not, List, [], ◌∷◌, map, replicate, Option, Some, None, slice_get, refl, sym, ◌∙◌, ap}
+use Rattle.std.proofs.Common.{◌≡◌, ℕ, zero, suc, Bool, false, ◌&&◌, ◌||◌, not, List, [], ◌∷◌, replicate, Option, slice_get, refl, ◌∙◌, ap}
 use Rattle.rp_value.specs.Values.{Val, false_val, also_val}
 use Rattle.rp_value.specs.Values as seen
 use Rattle.rp_lang.specs.Exprs.{Ex, Exs, Slot, Con, no_ex, also_ex}

@@ -1,5 +1,5 @@
 -- A program of which no false goal is found is safe.
-use Rattle.std.proofs.Common.{◌≡◌, ℕ, ◌+◌, Bool, true, false, List, [], ◌∷◌, ◌++◌, All, refl, ◌∙◌, ap, sym}
+use Rattle.std.proofs.Common.{◌≡◌, ℕ, ◌+◌, Bool, true, false, List, [], ◌∷◌, ◌++◌, All, refl}
 use Rattle.std.specs.Bool.{if◌then◌else◌}
 use Rattle.std.proofs.lemmas.List.Elements.{All-nil, All-cons}
 use Rattle.rp_lang.specs.Programs.{Prog}
@@ -8,7 +8,6 @@ use Rattle.event_machine.specs.Goals.{Goal, goals, IsFalseGoal}
 use Rattle.event_machine.specs.Tests.{is_false}
 use Rattle.event_machine.proofs.SafeLemmas.{safe_none_false}
 use Rattle.event_machine.proofs.TestLemmas.{is_false-goal}
-use Rattle.rp_verify.specs.declared.verdict.Unproved.{Unproved}
 use Rattle.rp_verify.specs.Verdicts.{name_of, unproved, unproved_from}
 
 abbrev pub IsRefuted : Goal → Type 0

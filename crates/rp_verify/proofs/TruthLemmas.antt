@@ -1,21 +1,12 @@
 -- The truth of a parameter and of a constructor.
-use Rattle.std.proofs.Common.{◌≡◌, ◌↔◌, ℕ, zero, suc, Bool, true, false, List, [], ◌∷◌, map, Option, Some, None, slice_get, unwrap_or, IsTrue, refl, sym, ◌∙◌, ap, subst}
+use Rattle.std.proofs.Common.{◌≡◌, ◌↔◌, ℕ, zero, suc, Bool, true, false, List, [], ◌∷◌, Option, slice_get, unwrap_or, IsTrue, refl, sym, ◌∙◌, ap}
 use Rattle.rp_value.specs.Values.{Val, Con}
 use Rattle.rp_lang.specs.declared.expr.Expr.{Expr}
 use Rattle.rp_lang.specs.declared.expr.Expr.TheVariants as made
-use Rattle.rp_lang.specs.declared.expr.Expr.TheOpen as layer
-use Rattle.rp_lang.specs.declared.expr.Expr.TheFolds.{fold-roll-Expr}
-use Rattle.rp_lang.specs.Exprs as seen
-use Rattle.rp_lang.specs.Exprs.{Ex}
-use Rattle.rp_lang.specs.Views.{expr_step, expr_view, exprs_view}
-use Rattle.event_machine.specs.Truth.{slot_value, value_of, value, values_of, is_true}
+use Rattle.rp_lang.specs.Views.{expr_view, exprs_view}
+use Rattle.rp_lang.proofs.ExprViews.{expr_view-Slot, expr_view-Con}
+use Rattle.event_machine.specs.Truth.{slot_value, value, values_of, is_true}
 use Rattle.event_machine.specs.Goals.{slots_of}
-
-pub expr_view-Slot : (slot : ℕ) → expr_view (made.Slot slot) ≡ seen.Slot slot
-expr_view-Slot slot = ap expr_view (sym (made.rolls-Slot slot)) ∙ fold-roll-Expr Ex expr_step (layer.Slot slot)
-
-pub expr_view-Con : (con : ℕ) (args : List Expr) → expr_view (made.Con con args) ≡ seen.Con con (exprs_view args)
-expr_view-Con con args = ap expr_view (sym (made.rolls-Con con args)) ∙ fold-roll-Expr Ex expr_step (layer.Con con args)
 
 slot_true : (values : List Bool) (slot : ℕ) → is_true (slot_value (slice_get (slots_of values) slot)) ≡ unwrap_or (slice_get values slot) false
 slot_true [] slot = refl

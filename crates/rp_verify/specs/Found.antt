@@ -1,5 +1,5 @@
 -- What a walk through code finds.
-use Rattle.std.specs.Prelude.{ℕ, ◌+◌, if◌then◌else◌, List, [], ◌∷◌, ◌++◌, filter, Bool, Option, Some, None}
+use Rattle.std.specs.Prelude.{ℕ, ◌+◌, if◌then◌else◌, List, [], ◌∷◌, ◌++◌, filter, Bool, Some, None}
 use Rattle.std.specs.List.{list_all}
 use Rattle.rp_span.specs.declared.Span.{Span}
 use Rattle.rp_lang.specs.declared.goal.GoalKind.TheVariants as kind

@@ -1,5 +1,5 @@
 -- Rows of truth values, in which the first ones are the parameters'.
-use Rattle.std.specs.Prelude.{ℕ, zero, suc, Bool, true, false, not, List, [], ◌∷◌}
+use Rattle.std.specs.Prelude.{ℕ, zero, suc, Bool, not, List, [], ◌∷◌}
 use Rattle.rp_lang.specs.Formulas.{Fo}
 use Rattle.event_machine.specs.Truth.{truth}
 use Rattle.event_machine.specs.Goals.{slots_of}

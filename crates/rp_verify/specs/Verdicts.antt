@@ -1,5 +1,5 @@
 -- What a verdict says of a program.
-use Rattle.std.specs.Prelude.{◌≡◌, ◌≢◌, ℕ, ◌+◌, ◌≤◌, ◌<◌, if◌then◌else◌, List, [], ◌∷◌, ◌++◌, length, take, All, Option, Some, None, slice_get, IfSome}
+use Rattle.std.specs.Prelude.{◌≡◌, ◌≢◌, ℕ, ◌+◌, ◌≤◌, ◌<◌, if◌then◌else◌, List, [], ◌∷◌, ◌++◌, length, take, All, Some, None, slice_get, IfSome}
 use Rattle.rp_lang.specs.declared.goal.GoalName.{GoalName}
 use Rattle.rp_lang.specs.declared.goal.GoalKind.TheVariants as kind
 use Rattle.rp_lang.specs.Programs.{Proc, Prog}

@@ -12,3 +12,6 @@ mod walk;
 
 pub use goals::verify;
 pub use verdict::{GoalErr, Unproved, Verdict};
+
+#[cfg(test)]
+mod tests;

@@ -1,9 +1,9 @@
 ghost use Rattle.std.specs.Prelude.{◌≡◌, ◌+◌, ◌<◌, ◌^◌, ◌++◌, [], ◌∷◌, OnOk, IfOk};
 ghost use Rattle.event_machine.specs.Code.{Done, code, codes};
-ghost use Rattle.rp_lang.specs.Views.{formula_view};
-ghost use Rattle.rp_lang.specs.Views.{stmt_view, stmts_view};
+ghost use Rattle.rp_lang.specs.Views.{formula_view, stmt_view, stmts_view};
 ghost use Rattle.rp_verify.specs.Counted.{assertions};
-ghost use Rattle.rp_verify.specs.Found.{found_at, found_in};
+ghost use Rattle.rp_verify.specs.Followed.{followed};
+ghost use Rattle.rp_verify.specs.Found.{found_at};
 ghost use Rattle.rp_verify.specs.Left.{left_code};
 
 use crate::left::Left;
@@ -79,11 +79,7 @@ impl Walk {
         rows: &[Row],
     ) -> Result<(), Memory>
         requires room { self.old.next + assertions (codes (stmts_view stmts.now) (left_code left.now)) < 2 ^ 32 }
-        ensures { let code = codes (stmts_view stmts.now) (left_code left.now) in
-            OnOk result (self.new ≡ record self.old {
-              next = self.old.next + assertions code;
-              list = self.old.list ++ found_in self.old.proc self.old.path self.old.next rows.now code;
-            }) }
+        ensures { OnOk result (self.new ≡ followed self.old rows.now (codes (stmts_view stmts.now) (left_code left.now))) }
     {
         match stmts.split_first() {
             Some((first, others)) => self.follow_stmt(alloc, first, others, left, rows),
@@ -102,11 +98,7 @@ impl Walk {
         rows: &[Row],
     ) -> Result<(), Memory>
         requires room { self.old.next + assertions (codes (stmts_view body.now) Done) < 2 ^ 32 }
-        ensures { let code = codes (stmts_view body.now) Done in
-            OnOk result (self.new ≡ record self.old {
-              next = self.old.next + assertions code;
-              list = self.old.list ++ found_in self.old.proc self.old.path self.old.next rows.now code;
-            }) }
+        ensures { OnOk result (self.new ≡ followed self.old rows.now (codes (stmts_view body.now) Done)) }
     {
         self.follow(alloc, body.as_slice(), &Left::Nothing, rows)
     }
@@ -121,11 +113,7 @@ impl Walk {
         rows: &[Row],
     ) -> Result<(), Memory>
         requires room { self.old.next + assertions (code (stmt_view stmt.now) (codes (stmts_view others.now) (left_code left.now))) < 2 ^ 32 }
-        ensures { let code = code (stmt_view stmt.now) (codes (stmts_view others.now) (left_code left.now)) in
-            OnOk result (self.new ≡ record self.old {
-              next = self.old.next + assertions code;
-              list = self.old.list ++ found_in self.old.proc self.old.path self.old.next rows.now code;
-            }) }
+        ensures { OnOk result (self.new ≡ followed self.old rows.now (code (stmt_view stmt.now) (codes (stmts_view others.now) (left_code left.now)))) }
     {
         match &stmt.what {
             StmtKind::Assert(formula) => {
@@ -135,20 +123,8 @@ impl Walk {
             StmtKind::If(formula, first, second) => {
                 let split = divided(alloc, formula, rows)?;
                 let behind = Left::Then(others, &*left);
-                self.follow_branch(
-                    alloc,
-                    1,
-                    first.as_slice(),
-                    &behind,
-                    split.holding.as_slice(),
-                )?;
-                self.follow_branch(
-                    alloc,
-                    2,
-                    second.as_slice(),
-                    &behind,
-                    split.failing.as_slice(),
-                )
+                self.follow_branch(alloc, 1, first, &behind, split.holding.as_slice())?;
+                self.follow_branch(alloc, 2, second, &behind, split.failing.as_slice())
             }
             _ => self.follow(alloc, others, left, rows),
         }
@@ -160,19 +136,16 @@ impl Walk {
         &mut self,
         alloc: Global,
         choice: u32,
-        stmts: &[Stmt],
+        branch: &List<Stmt>,
         left: &Left,
         rows: &[Row],
     ) -> Result<(), Memory>
-        requires room { self.old.next + assertions (codes (stmts_view stmts.now) (left_code left.now)) < 2 ^ 32 }
-        ensures { let code = codes (stmts_view stmts.now) (left_code left.now) in
-            OnOk result (self.new ≡ record self.old {
-              next = self.old.next + assertions code;
-              list = self.old.list ++ found_in self.old.proc (self.old.path ++ choice ∷ []) self.old.next rows.now code;
-            }) }
+        requires room { self.old.next + assertions (codes (stmts_view branch.now) (left_code left.now)) < 2 ^ 32 }
+        ensures { let behind = record self.old { path = self.old.path ++ choice ∷ [] } in
+            OnOk result (self.new ≡ record (followed behind rows.now (codes (stmts_view branch.now) (left_code left.now))) { path = self.old.path }) }
     {
         self.path.push(choice)?;
-        self.follow(alloc, stmts, left, rows)?;
+        self.follow(alloc, branch.as_slice(), left, rows)?;
         self.path.pop();
         Ok(())
     }

@@ -1,4 +1,4 @@
-use Rattle.std.proofs.Common.{◌≡◌, ◌≤◌, length, drop}
+use Rattle.std.proofs.Common.{◌≤◌, length, drop}
 use Rattle.event_machine.specs.Code.{Code, codes}
 use Rattle.rp_lang.specs.Views.{stmts_view}
 use Rattle.rp_verify.specs.Counted.{AreCounts}

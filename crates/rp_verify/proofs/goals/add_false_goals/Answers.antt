@@ -4,7 +4,6 @@ use Rattle.event_machine.specs.Code.{Done, codes}
 use Rattle.event_machine.specs.Goals.{proc_goals}
 use Rattle.event_machine.specs.Tests.{all_values}
 use Rattle.rp_verify.specs.declared.verdict.Unproved.{Unproved}
-use Rattle.rp_verify.specs.declared.walk.Walk.{Walk}
 use Rattle.rp_verify.specs.Counted.{proc_assertions}
 use Rattle.rp_verify.specs.Found.{found_in}
 use Rattle.rp_verify.specs.Verdicts.{unproved_from}

@@ -1,4 +1,4 @@
-use Rattle.std.proofs.Common.{◌≡◌, ◌+◌, ◌++◌, [], map, sum_by, length, drop}
+use Rattle.std.proofs.Common.{◌≡◌, ◌+◌, ◌++◌, [], map, sum_by, drop}
 use Rattle.rp_lang.specs.Views.{proc_view}
 use Rattle.event_machine.specs.Goals.{goals_from}
 use Rattle.rp_verify.specs.Counted.{proc_assertions}

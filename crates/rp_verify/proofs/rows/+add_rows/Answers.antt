@@ -1,4 +1,4 @@
-use Rattle.std.proofs.Common.{◌≡◌, arith}
+use Rattle.std.proofs.Common.{arith}
 use Rattle.rp_verify.proofs.RowLemmas.{OnOk-implies, last_row, both_rows}
 use Rattle.rp_verify.proofs.rows.+add_rows.Goals as goal
 

@@ -1,4 +1,3 @@
-use Rattle.std.proofs.Common.{rules, ◌≡◌, sym, ◌∙◌}
 use Rattle.event_machine.specs.Goals.{slots_of}
 use Rattle.rp_verify.proofs.TruthLemmas.{is_true-Slot, is_true-Con}
 use Rattle.rp_verify.proofs.truth.term_is_true.Goals as goal
