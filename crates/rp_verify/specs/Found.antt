@@ -9,6 +9,7 @@ use Rattle.rp_verify.specs.declared.verdict.Unproved.{Unproved}
 use Rattle.rp_verify.specs.Counted.{assertions}
 use Rattle.rp_verify.specs.Rows.{holds, fails}
 
+-- goal n, by its name
 abbrev pub entry : ℕ → List ℕ → ℕ → Span → Unproved
 entry proc path n at = record { goal = n; name = record { kind = kind.Assert; proc = Some proc; path = path; at = at; inv = None } }
 

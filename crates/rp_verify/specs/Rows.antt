@@ -11,6 +11,7 @@ with_values (b ∷ row) (suc from) values = b ∷ with_values row from values
 with_values (b ∷ row) zero [] = b ∷ row
 with_values (b ∷ row) zero (v ∷ values) = v ∷ with_values row zero values
 
+-- the formula holds at the row
 abbrev pub holds : Fo → List Bool → Bool
 holds f row = truth (slots_of row) f
 

@@ -5,7 +5,7 @@ use Rattle.rp_lang.specs.declared.goal.GoalKind.TheVariants as kind
 use Rattle.rp_lang.specs.Programs.{Proc, Prog}
 use Rattle.event_machine.specs.Code.{Done, codes, paths}
 use Rattle.event_machine.specs.Runs.{IsSafe}
-use Rattle.event_machine.specs.Goals.{Goal, goals, goals_from, path}
+use Rattle.event_machine.specs.Goals.{Goal, goals, path}
 use Rattle.event_machine.specs.Tests.{is_false}
 use Rattle.rp_verify.specs.declared.verdict.Unproved.{Unproved}
 use Rattle.rp_verify.specs.declared.verdict.Verdict.{Verdict}
@@ -13,6 +13,7 @@ use Rattle.rp_verify.specs.declared.verdict.Verdict.TheVariants.{Verified, Unpro
 use Rattle.rp_verify.specs.declared.verdict.GoalErr.{GoalErr}
 use Rattle.rp_verify.specs.declared.verdict.GoalErr.TheVariants.{Paths, Goals, Memory}
 
+-- the name of a goal: its procedure, the path to its assertion and where that stands
 abbrev pub name_of : Goal → GoalName
 name_of goal = record { kind = kind.Assert; proc = Some goal.proc; path = path goal; at = goal.at; inv = None }
 
@@ -26,6 +27,7 @@ unproved_from next (goal ∷ others) =
 abbrev pub unproved : Prog → List Unproved
 unproved p = unproved_from 1 (goals p)
 
+-- the paths of a procedure
 abbrev pub proc_paths : Proc → ℕ
 proc_paths q = paths (codes q.body Done)
 
@@ -37,6 +39,7 @@ pub record IsWithinLimits (p : Prog) : Type 0 where
   pub few_paths : All HasFewPaths p.procs
   pub few_goals : length (goals p) ≤ 2048
 
+-- Verified: no goal is false, and the program is safe. Unproved: the list has the false goals, of which there are some.
 abbrev pub Says : Prog → Verdict → Type 0
 Says p (Verified n) = record { counted : n ≡ length (goals p); none : unproved p ≡ []; safe : IsSafe p }
 Says p (Listed n list) = record { counted : n ≡ length (goals p); exact : list ≡ unproved p; some : unproved p ≢ [] }
@@ -46,11 +49,8 @@ pub record IsFirstPast (procs : List Proc) (n : ℕ) : Type 0 where
   pub before : All HasFewPaths (take n procs)
   pub past : IfSome (slice_get procs n) (λ q. 1024 < proc_paths q)
 
--- which limit the procedures pass
-abbrev pub ProcsArePast : List Proc → GoalErr → Type 0
-ProcsArePast procs (Paths n) = IsFirstPast procs n
-ProcsArePast procs Goals = All HasFewPaths procs × (2048 < length (goals_from 0 procs))
-ProcsArePast procs Memory = Unit {0}
-
+-- which limit the program passes; want of memory says nothing of it
 abbrev pub IsPast : Prog → GoalErr → Type 0
-IsPast p = ProcsArePast p.procs
+IsPast p (Paths n) = IsFirstPast p.procs n
+IsPast p Goals = All HasFewPaths p.procs × (2048 < length (goals p))
+IsPast p Memory = Unit {0}

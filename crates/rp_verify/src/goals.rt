@@ -75,6 +75,10 @@ fn false_goals(alloc: Global, program: &Program) -> Result<List<Unproved>, Memor
 }
 
 /// Tries each goal of the program at all truth values of the parameters.
+///
+/// `Verified` comes only for a program that is safe in every run, and `Unproved` has exactly the goals that are false,
+/// at least one. `Paths` names the first procedure with more than 1,024 paths; `Goals` says that no procedure has, and
+/// that there are more than 2,048 goals.
 pub fn verify(alloc: Global, program: &Program) -> Result<Verdict, GoalErr>
     ensures within { IfOk result (λ _. IsWithinLimits (program_view program.now)) }
     ensures says { IfOk result (Says (program_view program.now)) }
