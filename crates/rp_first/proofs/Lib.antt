@@ -4,3 +4,5 @@ pub mod Chains
 pub mod FormulaLemmas
 pub mod StatementLemmas
 pub mod DeclarationLemmas
+pub mod NameLemmas
+pub mod Gathered

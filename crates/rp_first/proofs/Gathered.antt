@@ -1,0 +1,47 @@
+-- Steps that the answers share: lists that grow, and what one nesting deeper is.
+use Rattle.std.proofs.Common.{ℕ, suc, ◌+◌, ◌≡◌, List, [], ◌∷◌, ◌++◌, map, ap, sym, ◌∙◌, refl, subst, add-one, get_or, slice_get, Some, length, ◌<◌, zero, arith}
+use Rattle.std.proofs.lemmas.List.{map-append}
+use Rattle.rp_grammar.specs.Terminals.{Tok, Placed}
+use Rattle.rp_grammar.specs.Parts.{Part}
+use Rattle.rp_grammar.specs.Trees.{ExprTree, StmtTree}
+use Rattle.rp_grammar.specs.Exprs.{Expr, Notx}
+use Rattle.rp_grammar.specs.Stmts.{Stmts, IfStmt}
+use Rattle.rp_types.specs.Resolution.{Name}
+use Rattle.rp_lang.specs.Formulas.{Fo}
+use Rattle.rp_lang.specs.Stmts.{St}
+use Rattle.rp_first.specs.Reads.{Reads, IsFormula, AreFormulas, IsStmt, AreStmts}
+use Rattle.rp_first.proofs.Chains.{Gathers, first_gathers}
+
+module _ {X Y : Type 0} (f : X → Y) where
+  -- one more at the end
+  pub map_pushed : (xs ys : List X) (x : X) → xs ≡ ys ++ x ∷ [] → map f xs ≡ map f ys ++ f x ∷ []
+  map_pushed xs ys x e = ap (map f) e ∙ map-append f ys (x ∷ [])
+
+  -- the only one
+  pub map_first : (xs ys : List X) (x : X) → ys ≡ [] → xs ≡ ys ++ x ∷ [] → map f xs ≡ f x ∷ []
+  map_first xs ys x none e = ap (map f) (e ∙ ap (λ zs. zs ++ x ∷ []) none)
+
+  pub map_at : (xs : List X) (k : ℕ) (d : X) → k < length xs → slice_get (map f xs) k ≡ Some (f (get_or xs k d))
+  map_at [] k d h = absurd (omega arith)
+  map_at (x ∷ xs) zero d h = refl
+  map_at (x ∷ xs) (suc k) d h = map_at xs k d (omega arith)
+
+pub as_meant : {Phrase : List Placed → Part ExprTree → List Placed → Type 0} {scope : List Name} {f g : Fo} {ts us : List Tok} → f ≡ g
+    → Reads Phrase (IsFormula scope g) ts us → Reads Phrase (IsFormula scope f) ts us
+as_meant {Phrase = Phrase} {scope = scope} {ts = ts} {us = us} e reads = subst (λ v. Reads Phrase (IsFormula scope v) ts us) (sym e) reads
+
+pub as_gathered : {Operand : List Placed → Part ExprTree → List Placed → Type 0} {More : List Placed → List (Part ExprTree) → List Placed → Type 0} {scope : List Name} {fs gs : List Fo} {ts us : List Tok} → fs ≡ gs
+    → Gathers Operand More scope gs ts us → Gathers Operand More scope fs ts us
+as_gathered {Operand = Operand} {More = More} {scope = scope} {ts = ts} {us = us} e gathers = subst (λ v. Gathers Operand More scope v ts us) (sym e) gathers
+
+pub deeper_expr : (d : ℕ) {Means : Part ExprTree → Type 0} {ts us : List Tok} → Reads (Expr (d + 1)) Means ts us → Reads (Expr (suc d)) Means ts us
+deeper_expr d {Means = Means} {ts = ts} {us = us} reads = subst (λ v. Reads (Expr v) Means ts us) (add-one d) reads
+
+pub deeper_not : (d : ℕ) {Means : Part ExprTree → Type 0} {ts us : List Tok} → Reads (Notx (d + 1)) Means ts us → Reads (Notx (suc d)) Means ts us
+deeper_not d {Means = Means} {ts = ts} {us = us} reads = subst (λ v. Reads (Notx v) Means ts us) (add-one d) reads
+
+pub deeper_stmts : (d : ℕ) {Means : List StmtTree → Type 0} {ts us : List Tok} → Reads (Stmts (d + 1)) Means ts us → Reads (Stmts (suc d)) Means ts us
+deeper_stmts d {Means = Means} {ts = ts} {us = us} reads = subst (λ v. Reads (Stmts v) Means ts us) (add-one d) reads
+
+pub deeper_if : (d : ℕ) {Means : StmtTree → Type 0} {ts us : List Tok} → Reads (IfStmt (d + 1)) Means ts us → Reads (IfStmt (suc d)) Means ts us
+deeper_if d {Means = Means} {ts = ts} {us = us} reads = subst (λ v. Reads (IfStmt v) Means ts us) (add-one d) reads
