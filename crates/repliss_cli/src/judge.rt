@@ -8,8 +8,8 @@ ghost use Rattle.repliss_cli.specs.FirstText.{IsRead};
 ghost use Rattle.repliss_cli.specs.Lines.{line_for};
 
 use crate::report::{GoalLine, Report};
-use event_machine::false_by_trying;
 use crate::stub::{ReadError, read_program};
+use event_machine::false_by_trying;
 use rp_lang::Program;
 use rp_span::{Pos, Text, line_of};
 use rp_value::{List, Memory, copy_bytes};

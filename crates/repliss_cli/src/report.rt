@@ -120,7 +120,10 @@ fn line_of_goal(alloc: Global, goal: &GoalLine) -> Result<Vec<u8>, Memory>
     line.extend_from_slice(goal.proc.as_slice())?;
     add_text(&mut line, " path ")?;
     add_path(alloc, &mut line, goal.path.as_slice())?;
-    add_text(&mut line, &format!(in alloc; " at {line_number}:{column}\n")?)?;
+    add_text(
+        &mut line,
+        &format!(in alloc; " at {line_number}:{column}\n")?,
+    )?;
     Ok(line)
 }
 

@@ -6,7 +6,10 @@ use rp_lang::Program;
 use std::alloc::Global;
 
 #[derive(Clone, Copy, Debug)]
-pub enum ReadError { NotYet, Memory }
+pub enum ReadError {
+    NotYet,
+    Memory,
+}
 
 pub fn read_program(_alloc: Global, _text: &[u8]) -> Result<Program, ReadError>
     ensures { IfOk result (λ p. IsRead _text.now (program_view p)) }

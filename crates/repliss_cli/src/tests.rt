@@ -25,7 +25,13 @@ fn file(alloc: Global, text: Vec<u8>, failing: &[u64]) -> Result<MemFiles, Alloc
 }
 
 /// A text between two others, so many times.
-fn around(alloc: Global, head: &str, part: &str, times: usize, tail: &str) -> Result<Vec<u8>, AllocError> {
+fn around(
+    alloc: Global,
+    head: &str,
+    part: &str,
+    times: usize,
+    tail: &str,
+) -> Result<Vec<u8>, AllocError> {
     let mut text = head.as_bytes().to_vec(alloc)?;
     for _ in 0..times {
         text.extend_from_slice(part.as_bytes())?;
@@ -38,7 +44,12 @@ fn around(alloc: Global, head: &str, part: &str, times: usize, tail: &str) -> Re
 fn first_line_is(alloc: Global, text: Vec<u8>, status: Status, line: &str) -> Result<bool, Fail> {
     let mut files = file(alloc, text, &[])?;
     let mut out = MemSink::with_room(alloc, ROOM, Vec::new(alloc))?;
-    let answer = run(alloc, &words(alloc, &["verify", "p.rpl"])?, &mut files, &mut out);
+    let answer = run(
+        alloc,
+        &words(alloc, &["verify", "p.rpl"])?,
+        &mut files,
+        &mut out,
+    );
     let first = out.bytes().split(|byte| *byte == b'\n').next();
     Ok(answer == status && first == Some(line.as_bytes()))
 }
@@ -47,7 +58,11 @@ fn first_line_is(alloc: Global, text: Vec<u8>, status: Status, line: &str) -> Re
 fn puts_the_report_of_a_text(rt: HostRuntime) -> Result<(), Fail> {
     let alloc = rt.alloc();
     for (text, status, output) in [
-        ("proc p(b: Bool) { assert b || !b; }", Status::Fine, "verified: 1 goal\n"),
+        (
+            "proc p(b: Bool) { assert b || !b; }",
+            Status::Fine,
+            "verified: 1 goal\n",
+        ),
         (
             "proc p(b: Bool) { assert b; }",
             Status::Found,
@@ -65,12 +80,25 @@ fn puts_the_report_of_a_text(rt: HostRuntime) -> Result<(), Fail> {
             "unproved: 1 of 3 goals\ngoal 3 assert p path 2.2 at 1:94\n",
         ),
         ("idtype U;", Status::Refused, "refused: not yet\n"),
-        ("proc p(b: Bool) { assert c; }", Status::Refused, "refused: not yet\n"),
-        ("proc p(b: Bool) { assert b", Status::Refused, "refused: not yet\n"),
+        (
+            "proc p(b: Bool) { assert c; }",
+            Status::Refused,
+            "refused: not yet\n",
+        ),
+        (
+            "proc p(b: Bool) { assert b",
+            Status::Refused,
+            "refused: not yet\n",
+        ),
     ] {
         let mut files = file(alloc, text.as_bytes().to_vec(alloc)?, &[])?;
         let mut out = MemSink::with_room(alloc, ROOM, Vec::new(alloc))?;
-        let answer = run(alloc, &words(alloc, &["verify", "p.rpl"])?, &mut files, &mut out);
+        let answer = run(
+            alloc,
+            &words(alloc, &["verify", "p.rpl"])?,
+            &mut files,
+            &mut out,
+        );
         assert_eq!(rt; out.bytes(), output.as_bytes(), "{text}");
         assert_eq!(rt; answer, status, "{text}");
     }
@@ -80,24 +108,51 @@ fn puts_the_report_of_a_text(rt: HostRuntime) -> Result<(), Fail> {
 #[test]
 fn refuses_what_passes_a_number(rt: HostRuntime) -> Result<(), Fail> {
     let alloc = rt.alloc();
-    let ifs = "if (b) { } if (b) { } if (b) { } if (b) { } if (b) { } if (b) { } if (b) { } if (b) { } if (b) { } if (b) { } ";
-    let eight = "proc p(a: Bool, b: Bool, c: Bool, d: Bool, e: Bool, f: Bool, g: Bool, h: Bool) { assert a || !a; }";
-    let nine = "proc p(a: Bool, b: Bool, c: Bool, d: Bool, e: Bool, f: Bool, g: Bool, h: Bool, i: Bool) { assert a || !a; }";
+    let ifs =
+        "if (b) { } if (b) { } if (b) { } if (b) { } if (b) { } if (b) { } if (b) { } if (b) { } if (b) { } if (b) { } ";
+    let eight =
+        "proc p(a: Bool, b: Bool, c: Bool, d: Bool, e: Bool, f: Bool, g: Bool, h: Bool) { assert a || !a; }";
+    let nine =
+        "proc p(a: Bool, b: Bool, c: Bool, d: Bool, e: Bool, f: Bool, g: Bool, h: Bool, i: Bool) { assert a || !a; }";
     let head = "proc p(b: Bool) { ";
     let claim = "assert b || !b; ";
     for (head, part, times, tail, status, line) in [
         ("", " ", 262_144, "", Status::Fine, "verified: 0 goals"),
-        ("", " ", 262_145, "", Status::Refused, "refused: limit program bytes 262144"),
+        (
+            "",
+            " ",
+            262_145,
+            "",
+            Status::Refused,
+            "refused: limit program bytes 262144",
+        ),
         (head, ifs, 1, "}", Status::Fine, "verified: 0 goals"),
-        ("proc p(b: Bool) { if (b) { ", ifs, 1, "} }", Status::Refused, "refused: not yet"),
+        (
+            "proc p(b: Bool) { if (b) { ",
+            ifs,
+            1,
+            "} }",
+            Status::Refused,
+            "refused: not yet",
+        ),
         ("", eight, 1, "", Status::Fine, "verified: 1 goal"),
         ("", nine, 1, "", Status::Refused, "refused: not yet"),
         (head, claim, 200, "}", Status::Fine, "verified: 200 goals"),
-        (head, "assert b; ", 200, "}", Status::Found, "unproved: 200 of 200 goals"),
+        (
+            head,
+            "assert b; ",
+            200,
+            "}",
+            Status::Found,
+            "unproved: 200 of 200 goals",
+        ),
         (head, claim, 201, "}", Status::Refused, "refused: not yet"),
     ] {
         let text = around(alloc, head, part, times, tail)?;
-        assert!(rt; first_line_is(alloc, text, status, line)?, "{times} times {part}");
+        assert!(rt;
+            first_line_is(alloc, text, status, line)?,
+            "{times} times {part}"
+        );
     }
     Ok(())
 }
@@ -152,11 +207,21 @@ fn answers_a_fault_as_such(rt: HostRuntime) -> Result<(), Fail> {
     for (reads, writes, status, output) in [
         ([0].as_slice(), [].as_slice(), Status::ReadFault, ""),
         ([].as_slice(), [0].as_slice(), Status::WriteFault, ""),
-        ([].as_slice(), [1].as_slice(), Status::WriteFault, "unproved: 1 of 1 goal\n"),
+        (
+            [].as_slice(),
+            [1].as_slice(),
+            Status::WriteFault,
+            "unproved: 1 of 1 goal\n",
+        ),
     ] {
         let mut files = file(alloc, text.to_vec(alloc)?, reads)?;
         let mut out = MemSink::with_room(alloc, ROOM, writes.to_vec(alloc)?)?;
-        let answer = run(alloc, &words(alloc, &["verify", "p.rpl"])?, &mut files, &mut out);
+        let answer = run(
+            alloc,
+            &words(alloc, &["verify", "p.rpl"])?,
+            &mut files,
+            &mut out,
+        );
         assert_eq!(rt; answer, status);
         assert_eq!(rt; out.bytes(), output.as_bytes());
     }

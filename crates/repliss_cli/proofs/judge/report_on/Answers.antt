@@ -11,7 +11,7 @@ pub returns-in_ok-lines_for-in-Ok-Unproved : goal.returns-in_ok-lines_for-in-Ok-
 returns-in_ok-lines_for-in-Ok-Unproved c =
     let p = program_view c.args.program.now in
     let says : Says p (verdict.Unproved c.in-Ok-Unproved.goals c.in-Ok-Unproved.list)
-      = subst (Says p) c.in-Ok-Unproved.field-0-is c.in-Ok-Unproved.ensures.says in
+    = subst (Says p) c.in-Ok-Unproved.field-0-is c.in-Ok-Unproved.ensures.says in
     unproved_report c.false_by_trying.ensures c.args.text.now p _ c.in-Ok-Unproved.list _
     (record { short = c.requires.short; read = c.requires.read; plain = first_form c.args.program.now; within = c.in-Ok-Unproved.ensures.within })
     says.counted says.exact says.some
