@@ -7,5 +7,6 @@ mod formulas;
 mod mark;
 mod nodes;
 mod source;
+mod statements;
 
 pub use error::ReadError;
