@@ -44,9 +44,11 @@ abbrev pub NeverViolated : Prog → Type 0
 NeverViolated p = (universe : ℕ) (labels : List Label) (at : ℕ) (what : What) → 1 ≤ universe → outcome p universe labels ≡ ViolatedAt at what → ⊥
 
 pub never_violated : (p : Prog) → IsSafe p → NeverViolated p
+unfolding IsSafe
 never_violated p safe universe labels at what one e =
     let s = shown p 0 (empty universe) labels at what e in safe universe s.0 s.1 s.2 one s.3 s.4
 
 pub safe_from_outcomes : (p : Prog) → NeverViolated p → IsSafe p
+unfolding IsSafe
 safe_from_outcomes p never universe labels s label one run (what, is) =
     let t = told p 0 (empty universe) labels s label what run is in never universe (labels ++ label ∷ []) t.0 what one t.1

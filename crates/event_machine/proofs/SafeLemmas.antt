@@ -149,6 +149,7 @@ good_after p clean s [] new good run = subst Good (sym run) good
 good_after p clean s (label ∷ labels) new good (mid, leads, run) = good_after p clean mid labels new ((keeps_step p clean s label good).0 mid leads) run
 
 pub safe_none_false : (p : Prog) → NoneFalse (goals p) → IsSafe p
+unfolding IsSafe
 safe_none_false p none universe labels s label one run =
     let clean = clean_procs 0 p.procs none in
     (keeps_step p clean s label (good_after p clean (empty universe) labels s (All-nil CleanLeft) run)).1

@@ -1,1 +1,4 @@
-mod Growing
+pub mod Growing
+pub mod Causes
+pub mod Putting
+pub mod Named

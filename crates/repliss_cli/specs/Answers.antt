@@ -1,11 +1,13 @@
 -- When each answer of the program may come, and what is put.
-use Rattle.std.specs.Prelude.{◌≡◌, ◌≢◌, ℕ, ◌<◌, ◌≤◌, List, [], length, map, filter, Option, IfSome, ◌⊎◌}
+use Rattle.std.specs.Prelude.{◌≡◌, ◌≢◌, ℕ, ◌+◌, ◌<◌, ◌≤◌, List, [], ◌∷◌, length, Option, IfSome, slice_get}
+use Rattle.std.specs.Option.{option_map_or}
 use Rattle.std.specs.declared.option.Option.TheVariants.{None, Some}
 use Rattle.rp_lang.specs.Programs.{Prog}
 use Rattle.rp_io.specs.Files.{Contents, content_of}
 use Rattle.rp_io.specs.Sinks.{Puts, PutsPrefix}
 use Rattle.event_machine.specs.Runs.{IsSafe}
-use Rattle.event_machine.specs.Goals.{goals}
+use Rattle.rp_span.specs.Places.{place_of}
+use Rattle.event_machine.specs.Goals.{Goal, goals, path, IsFalseGoal}
 use Rattle.repliss_cli.specs.declared.report.GoalLine.{GoalLine}
 use Rattle.repliss_cli.specs.declared.report.Report.{Report}
 use Rattle.repliss_cli.specs.declared.report.Report.TheVariants.{Verified, Unproved, Usage, ProgramBytes, NotYet}
@@ -23,10 +25,27 @@ pub record IsVerified (content : List ℕ) (count : ℕ) : Type 0 where
   pub safe : IsSafe program
   pub counts : count ≡ length (goals program)
 
+-- the name of the procedure of that number
+abbrev pub name_at : Prog → ℕ → List ℕ
+name_at p k = option_map_or (λ q. q.name) (slice_get p.procs k) []
+
+-- the line of a goal with its number
+abbrev pub line_of : List ℕ → Prog → ℕ → Goal → GoalLine
+line_of content p n goal = record { goal = n; proc = name_at p goal.proc; path = path goal; at = place_of content goal.at.from }
+
+-- The lines are those of exactly the false goals among these, in order. The goals are numbered from n on.
+pub data NameFalse (content : List ℕ) (p : Prog) : ℕ → List Goal → List GoalLine → Type 0 where
+  no_goal : {n : ℕ} → NameFalse content p n [] []
+  false_goal : {n : ℕ} {goal : Goal} {goals : List Goal} {lines : List GoalLine}
+      → IsFalseGoal goal → NameFalse content p (n + 1) goals lines → NameFalse content p n (goal ∷ goals) (line_of content p n goal ∷ lines)
+  other_goal : {n : ℕ} {goal : Goal} {goals : List Goal} {lines : List GoalLine}
+      → ¬ IsFalseGoal goal → NameFalse content p (n + 1) goals lines → NameFalse content p n (goal ∷ goals) lines
+
 -- The bytes are a text of the first form of which some goal is false, and the lines name exactly its false goals, in order.
 pub record IsUnproved (content : List ℕ) (count : ℕ) (lines : List GoalLine) : Type 0 where
   pub program : Prog
   pub text : IsFirstText content program
+  pub named : NameFalse content program 1 (goals program) lines
   pub some : lines ≢ []
   pub counts : count ≡ length (goals program)
 
@@ -35,20 +54,22 @@ abbrev pub OnContent : Option (List ℕ) → (List ℕ → Type 0) → Type 0
 OnContent None P = (content : List ℕ) × P content
 OnContent (Some content) P = P content
 
-abbrev pub OnNamed : Words → Option Contents → (List ℕ → Type 0) → Type 0
-OnNamed words told P = IfNamed (named words)
-  where
-    IfNamed : Option (List ℕ) → Type 0
-    IfNamed None = ⊥
-    IfNamed (Some name) = OnContent (content_of told name) P
+abbrev pub OnName : Option (List ℕ) → Option Contents → (List ℕ → Type 0) → Type 0
+OnName None told P = ⊥
+OnName (Some name) told P = OnContent (content_of told name) P
 
--- The report's cause stands: the words, or the content of the file that they name.
+-- the report's cause stands in these bytes
+abbrev pub IsReportOf : List ℕ → Report → Type 0
+IsReportOf content (Verified count) = IsVerified content count
+IsReportOf content (Unproved count lines) = IsUnproved content count lines
+IsReportOf content Usage = ⊥
+IsReportOf content ProgramBytes = 262144 < length content
+IsReportOf content NotYet = length content ≤ 262144
+
+-- The report's cause stands: other words than `verify FILE`, or the content of the file.
 abbrev pub HasCause : Words → Option Contents → Report → Type 0
-HasCause words told (Verified count) = OnNamed words told (λ content. IsVerified content count)
-HasCause words told (Unproved count lines) = OnNamed words told (λ content. IsUnproved content count lines)
 HasCause words told Usage = named words ≡ None
-HasCause words told ProgramBytes = OnNamed words told (λ content. 262144 < length content)
-HasCause words told NotYet = OnNamed words told (λ content. length content ≤ 262144)
+HasCause words told report = OnName (named words) told (λ content. IsReportOf content report)
 
 -- ---- what is put
 

@@ -1,2 +1,5 @@
 pub mod Words
 pub mod Texts
+pub mod FirstText
+pub mod Answers
+pub mod Lines

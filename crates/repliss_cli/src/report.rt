@@ -1,5 +1,6 @@
 // Reports, their statuses and their lines.
 ghost use Rattle.std.specs.Prelude.{◌≡◌, ◌++◌, ◌∷◌, [], codes, decimal, flat_map, string_bytes, IfOk, OnOk};
+ghost use Rattle.rp_io.specs.Sinks.{bytes_of};
 ghost use Rattle.repliss_cli.specs.Texts.{goal_line, choice_text, path_text, place_text, report_text, status_of, number_of, unproved_line, verified_line};
 
 use rp_span::Pos;
@@ -50,6 +51,19 @@ pub enum Report {
     Usage,
     ProgramBytes,
     NotYet,
+}
+
+impl Report {
+    /// How a command ends that tells this.
+    pub fn status(&self) -> Status
+        ensures { result ≡ status_of self.now }
+    {
+        match self {
+            Report::Verified { .. } => Status::Fine,
+            Report::Unproved { .. } => Status::Found,
+            Report::Usage | Report::ProgramBytes | Report::NotYet => Status::Refused,
+        }
+    }
 }
 
 /// Adds text at the end of a line.
@@ -106,13 +120,16 @@ fn line_of_goal(alloc: Global, goal: &GoalLine) -> Result<Vec<u8>, Memory>
     line.extend_from_slice(goal.proc.as_slice())?;
     add_text(&mut line, " path ")?;
     add_path(alloc, &mut line, goal.path.as_slice())?;
-    add_text(&mut line, &format!(in alloc; " at {line_number}:{column}\n")?)?;
+    add_text(
+        &mut line,
+        &format!(in alloc; " at {line_number}:{column}\n")?,
+    )?;
     Ok(line)
 }
 
 /// A report of one line.
 fn one(alloc: Global, text: String) -> Result<Vec<Vec<u8>>, Memory>
-    ensures { IfOk result (λ lines. flat_map (λ line. line.items) lines.items ≡ string_bytes text) }
+    ensures { IfOk result (λ lines. bytes_of lines.items ≡ string_bytes text) }
 {
     let mut lines = Vec::new(alloc);
     lines.push(text.into_bytes())?;
@@ -121,7 +138,7 @@ fn one(alloc: Global, text: String) -> Result<Vec<Vec<u8>>, Memory>
 
 /// Adds the lines of unproved goals.
 fn add_goals(alloc: Global, lines: &mut Vec<Vec<u8>>, goals: &[GoalLine]) -> Result<(), Memory>
-    ensures { OnOk result (flat_map (λ line. line.items) lines.new.items ≡ flat_map (λ line. line.items) lines.old.items ++ flat_map goal_line goals.now) }
+    ensures { OnOk result (bytes_of lines.new.items ≡ bytes_of lines.old.items ++ flat_map goal_line goals.now) }
 {
     for goal in goals {
         lines.push(line_of_goal(alloc, goal)?)?;
@@ -152,7 +169,7 @@ fn verified_line(alloc: Global, goals: u32) -> Result<String, Memory>
 
 /// The lines of a report, each with its newline.
 pub fn lines(alloc: Global, report: &Report) -> Result<Vec<Vec<u8>>, Memory>
-    ensures { IfOk result (λ lines. flat_map (λ line. line.items) lines.items ≡ report_text report.now) }
+    ensures { IfOk result (λ lines. bytes_of lines.items ≡ report_text report.now) }
 {
     match report {
         Report::Verified { goals } => one(alloc, verified_line(alloc, *goals)?),

@@ -1,14 +1,17 @@
 // The top call.
-ghost use Rattle.std.specs.Prelude.{◌≡◌, ◌≢◌, ◌≤◌, ◌⊎◌, Contains, IfSome, IsSome, IfOk, length, flat_map};
+ghost use Rattle.std.specs.Prelude.{◌≡◌, ◌≢◌, ◌<◌, Contains, IfOk, IfSome, IsErrOf, IsSome, OnErr, length};
+ghost use Rattle.std.specs.Option.{option_map};
 ghost use Rattle.rp_io.specs.Counts.{Rose};
-ghost use Rattle.rp_io.specs.Sinks.{PutsPrefix, bytes_of};
-ghost use Rattle.repliss_cli.specs.Words.{named};
+ghost use Rattle.repliss_cli.specs.declared.report.Report.{Report};
+ghost use Rattle.rp_io.specs.Sinks.{Puts, PutsPrefix};
+ghost use Rattle.repliss_cli.specs.Words.{is_option, named};
 ghost use Rattle.repliss_cli.specs.Texts.{report_text, status_of};
-ghost use Rattle.repliss_cli.specs.Answers.{HasCause, IsAnswer, IsCut, IsCutShort, IsRightFor};
+ghost use Rattle.repliss_cli.specs.Answers.{HasCause, IsAnswer, IsCut, IsCutShort};
 
 use crate::judge::judge;
 use crate::report::{Report, Status, lines};
-use rp_io::{Files, ReadErr, Sink, put_lines, read_all};
+use rp_io::{Failed, Files, ReadErr, Sink, put_lines, read_all};
+use rp_value::Memory;
 use std::alloc::Global;
 
 /// The greatest length of a program's text.
@@ -31,47 +34,76 @@ fn file_of(words: &[String]) -> Option<&str>
     }
 }
 
-/// Puts the lines of a report.
+#[tactic(auto, using(crate::proofs::Putting::whole_prefix, crate::proofs::Putting::no_room_for))]
+/// Puts the lines of a report. On `WriteFault` and `NoMemory` a prefix of them was put.
 fn put_report<K: Sink>(alloc: Global, out: &mut K, report: &Report) -> Status
-    ensures put { Puts'unless result (K.told out.old) (K.told out.new) report.now }
+    ensures whole { result ≢ Status.WriteFault → result ≢ Status.NoMemory
+        → (result ≡ status_of report.now) × Puts (K.told out.old) (K.told out.new) (report_text report.now) }
+    ensures prefix { PutsPrefix (K.told out.old) (K.told out.new) (report_text report.now) }
+    ensures write_fault { result ≡ Status.WriteFault → Rose (K.faults out.old) (K.faults out.new) }
+    ensures no_room { result ≡ Status.WriteFault → IfSome (K.room out.old) (λ n. n < length (report_text report.now)) }
+    ensures no_read_fault { result ≢ Status.ReadFault }
 {
     let Ok(lines) = lines(alloc, report) else {
         return Status::NoMemory;
     };
-    if put_lines(out, &lines).is_err() {
-        return Status::WriteFault;
+    match put_lines(out, &lines) {
+        Ok(()) => report.status(),
+        Err(Failed) => Status::WriteFault,
     }
-    report.status()
+}
+
+/// Why there is no report.
+#[derive(Clone, Copy, Debug, PartialEq, Eq)]
+enum Stop {
+    Unread,
+    NoMemory,
+}
+
+#[tactic(auto, using(crate::proofs::Causes::content_cause, crate::proofs::Causes::too_long_cause, crate::proofs::Causes::some_cause))]
+/// The report that the words ask for.
+fn report_for<F: Files>(alloc: Global, words: &[String], files: &mut F) -> Result<Report, Stop>
+    ensures cause { IfOk result (λ report. HasCause words.now (F.told files.old) report) }
+    ensures some_cause { OnErr result ((report : Report) × HasCause words.now (F.told files.old) report) }
+    ensures unread { IsErrOf result Stop.Unread → Rose (F.faults files.old) (F.faults files.new) }
+    ensures unread_file { IsErrOf result Stop.Unread → IsSome (named words.now) }
+    ensures unsound { IsErrOf result Stop.Unread → IfSome (named words.now) (λ name. Contains (F.sound files.old) name → ⊥) }
+{
+    let Some(name) = file_of(words) else {
+        return Ok(Report::Usage);
+    };
+    match read_all(alloc, files, name, PROGRAM_BYTES) {
+        Ok(content) => match judge(alloc, content) {
+            Ok(report) => Ok(report),
+            Err(Memory) => Err(Stop::NoMemory),
+        },
+        Err(ReadErr::TooLong) => Ok(Report::ProgramBytes),
+        Err(ReadErr::Failed) => Err(Stop::Unread),
+        Err(ReadErr::Memory) => Err(Stop::NoMemory),
+    }
 }
 
 /// What the program does with its words: `verify FILE` tells whether the file's program is safe.
-///
-/// Nothing is put on `ReadFault`. On `WriteFault` and `NoMemory` a prefix of the output was put.
 pub fn run<F: Files, K: Sink>(alloc: Global, words: &[String], files: &mut F, out: &mut K) -> Status
-    // Verified is said only of a program that is safe in every run of the machine.
+    // Verified is told only of a program that is safe in every run of the machine.
     ensures fine { result ≡ Status.Fine → IsAnswer words.now (F.told files.old) result (K.told out.old) (K.told out.new) }
     ensures found { result ≡ Status.Found → IsAnswer words.now (F.told files.old) result (K.told out.old) (K.told out.new) }
     ensures refused { result ≡ Status.Refused → IsAnswer words.now (F.told files.old) result (K.told out.old) (K.told out.new) }
 
-    // A fault of reading is one of the named file.
+    // A read fault is one of the file that the words name.
     ensures read_fault { result ≡ Status.ReadFault → Rose (F.faults files.old) (F.faults files.new) }
-    ensures read_fault_named { result ≡ Status.ReadFault → IfNamed words.now (λ name. Contains (F.sound files.old) name → ⊥) }
+    ensures read_fault_of_file { result ≡ Status.ReadFault → IsSome (named words.now) }
+    ensures read_fault_unsound { result ≡ Status.ReadFault → IfSome (named words.now) (λ name. Contains (F.sound files.old) name → ⊥) }
     ensures read_fault_puts_nothing { result ≡ Status.ReadFault → K.told out.new ≡ K.told out.old }
 
     ensures write_fault { result ≡ Status.WriteFault → Rose (K.faults out.old) (K.faults out.new) }
-    ensures write_fault_cut { result ≡ Status.WriteFault → IsCutShort words.now (F.told files.old) (K.room out.old) (K.told out.old) (K.told out.new) }
+    ensures write_fault_cut { result ≡ Status.WriteFault
+        → IsCutShort words.now (F.told files.old) (K.room out.old) (K.told out.old) (K.told out.new) }
     ensures no_memory_cut { result ≡ Status.NoMemory → IsCut words.now (F.told files.old) (K.told out.old) (K.told out.new) }
 {
-    let Some(name) = file_of(words) else {
-        return put_report(alloc, out, &Report::Usage);
-    };
-    match read_all(alloc, files, name, PROGRAM_BYTES) {
-        Ok(content) => match judge(alloc, content) {
-            Ok(report) => put_report(alloc, out, &report),
-            Err(Memory) => Status::NoMemory,
-        },
-        Err(ReadErr::Failed) => Status::ReadFault,
-        Err(ReadErr::TooLong) => put_report(alloc, out, &Report::ProgramBytes),
-        Err(ReadErr::Memory) => Status::NoMemory,
+    match report_for(alloc, words, files) {
+        Ok(report) => put_report(alloc, out, &report),
+        Err(Stop::Unread) => Status::ReadFault,
+        Err(Stop::NoMemory) => Status::NoMemory,
     }
 }

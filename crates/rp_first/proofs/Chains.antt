@@ -22,16 +22,18 @@ module _ {Operand : List Placed → Part ExprTree → List Placed → Type 0} {M
   pub first_gathers : {f : Fo} {ts us : List Tok} → Reads Operand (IsFormula scope f) ts us → Gathers Operand More scope (f ∷ []) ts us
   first_gathers inner = record {
     some = omega arith;
-    with_more = λ gs vs more. record { before = λ r p w.
-      let y : Spells More (AreFormulas scope gs) _ r = more.before r p w in
-      let x : Spells Operand _ _ y.placed = inner.before y.placed y.plainly y.within in record {
-        placed = x.placed;
-        tree = x.tree ∷ y.tree;
-        plainly = x.plainly;
-        within = x.within;
-        phrase = members x.phrase y.phrase;
-        means = record { first = both_true _ _ x.means.first y.means.first; meant = more_formulas x.means.meant y.means.meant };
-      } };
+    with_more = λ gs vs more. record {
+      before = λ r p w.
+          let y : Spells More (AreFormulas scope gs) _ r = more.before r p w in
+          let x : Spells Operand _ _ y.placed = inner.before y.placed y.plainly y.within in record {
+            placed = x.placed;
+            tree = x.tree ∷ y.tree;
+            plainly = x.plainly;
+            within = x.within;
+            phrase = members x.phrase y.phrase;
+            means = record { first = both_true _ _ x.means.first y.means.first; meant = more_formulas x.means.meant y.means.meant };
+          };
+    };
   }
 
   module _ (d : ℕ) (h : d ≤ 64) (k : Terminal)
@@ -39,16 +41,18 @@ module _ {Operand : List Placed → Part ExprTree → List Placed → Type 0} {M
     -- an operator, an operand and what follows
     more_reads : {f : Fo} {s : Span} {us vs ws zs : List Tok} (gs : List Fo) → us ≡ at k s ∷ vs → Reads Operand (IsFormula scope f) vs ws
         → Reads More (AreFormulas scope gs) ws zs → Reads More (AreFormulas scope (f ∷ gs)) us zs
-    more_reads {s = s} gs e inner more = record { before = λ r p w.
-      let y : Spells More (AreFormulas scope gs) _ r = more.before r p w in
-      let x : Spells Operand _ _ y.placed = inner.before y.placed y.plainly y.within in record {
-        placed = on k s d ∷ x.placed;
-        tree = x.tree ∷ y.tree;
-        plainly = ap (λ q. at k s ∷ q) x.plainly ∙ sym e;
-        within = (h, x.within);
-        phrase = next s _ _ _ _ _ x.phrase y.phrase;
-        means = record { first = both_true _ _ x.means.first y.means.first; meant = more_formulas x.means.meant y.means.meant };
-      } }
+    more_reads {s = s} gs e inner more = record {
+      before = λ r p w.
+          let y : Spells More (AreFormulas scope gs) _ r = more.before r p w in
+          let x : Spells Operand _ _ y.placed = inner.before y.placed y.plainly y.within in record {
+            placed = on k s d ∷ x.placed;
+            tree = x.tree ∷ y.tree;
+            plainly = ap (λ q. at k s ∷ q) x.plainly ∙ sym e;
+            within = (h, x.within);
+            phrase = next s _ _ _ _ _ x.phrase y.phrase;
+            means = record { first = both_true _ _ x.means.first y.means.first; meant = more_formulas x.means.meant y.means.meant };
+          };
+    }
 
     pub next_gathers : {fs : List Fo} {f : Fo} {s : Span} {ts us vs ws : List Tok} → Gathers Operand More scope fs ts us
         → us ≡ at k s ∷ vs → Reads Operand (IsFormula scope f) vs ws → Gathers Operand More scope (fs ++ f ∷ []) ts ws

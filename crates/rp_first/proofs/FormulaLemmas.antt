@@ -21,119 +21,139 @@ use Rattle.rp_first.proofs.Tests.{both_true}
 
 module _ {scope : List Name} {d : ℕ} (h : d ≤ 64) where
   pub true_reads : {ts us : List Tok} {s : Span} → ts ≡ at (word word.True) s ∷ us → Reads (Prim d) (IsFormula scope (Holds (Con 1 no_ex))) ts us
-  true_reads {s = s} e = record { before = λ r p w. record {
-    placed = on (word word.True) s d ∷ r;
-    tree = built s (ExprForm.truth true);
-    plainly = ap (λ q. at (word word.True) s ∷ q) p ∙ sym e;
-    within = (h, w);
-    phrase = true_;
-    means = record { first = refl; meant = truth };
-  } }
+  true_reads {s = s} e = record {
+    before = λ r p w. record {
+      placed = on (word word.True) s d ∷ r;
+      tree = built s (ExprForm.truth true);
+      plainly = ap (λ q. at (word word.True) s ∷ q) p ∙ sym e;
+      within = (h, w);
+      phrase = true_;
+      means = record { first = refl; meant = truth };
+    };
+  }
 
   pub false_reads : {ts us : List Tok} {s : Span} → ts ≡ at (word word.False) s ∷ us → Reads (Prim d) (IsFormula scope (Holds (Con 0 no_ex))) ts us
-  false_reads {s = s} e = record { before = λ r p w. record {
-    placed = on (word word.False) s d ∷ r;
-    tree = built s (ExprForm.truth false);
-    plainly = ap (λ q. at (word word.False) s ∷ q) p ∙ sym e;
-    within = (h, w);
-    phrase = false_;
-    means = record { first = refl; meant = truth };
-  } }
+  false_reads {s = s} e = record {
+    before = λ r p w. record {
+      placed = on (word word.False) s d ∷ r;
+      tree = built s (ExprForm.truth false);
+      plainly = ap (λ q. at (word word.False) s ∷ q) p ∙ sym e;
+      within = (h, w);
+      phrase = false_;
+      means = record { first = refl; meant = truth };
+    };
+  }
 
   pub variable_reads : {ts us : List Tok} {n : Name} {s : Span} {k : ℕ} → slice_get scope k ≡ Some n → ts ≡ at (name n) s ∷ us
       → Reads (Prim d) (IsFormula scope (Holds (Slot k))) ts us
-  variable_reads {n = n} {s = s} found e = record { before = λ r p w. record {
-    placed = on (name n) s d ∷ r;
-    tree = built s (ExprForm.access (AccessTree.path (ident n s) StepTrees.no_steps ArgTrees.absent));
-    plainly = ap (λ q. at (name n) s ∷ q) p ∙ sym e;
-    within = (h, w);
-    phrase = access (rooted no_step not_called);
-    means = record { first = refl; meant = variable found };
-  } }
+  variable_reads {n = n} {s = s} found e = record {
+    before = λ r p w. record {
+      placed = on (name n) s d ∷ r;
+      tree = built s (ExprForm.access (AccessTree.path (ident n s) StepTrees.no_steps ArgTrees.absent));
+      plainly = ap (λ q. at (name n) s ∷ q) p ∙ sym e;
+      within = (h, w);
+      phrase = access (rooted no_step not_called);
+      means = record { first = refl; meant = variable found };
+    };
+  }
 
   pub parens_read : {ts us vs ws : List Tok} {o c : Span} {f : Fo} → ts ≡ at (symbol symbol.OpenParen) o ∷ us → Reads (Expr (suc d)) (IsFormula scope f) us vs
       → vs ≡ at (symbol symbol.CloseParen) c ∷ ws → Reads (Prim d) (IsFormula scope f) ts ws
-  parens_read {o = o} {c = c} {f = f} e inner g = record { before = λ r p w.
-    let x : Spells (Expr (suc d)) (IsFormula scope f) _ (on (symbol symbol.CloseParen) c d ∷ r) = inner.before (on (symbol symbol.CloseParen) c d ∷ r) (ap (λ q. at (symbol symbol.CloseParen) c ∷ q) p ∙ sym g) (h, w) in record {
-      placed = on (symbol symbol.OpenParen) o d ∷ x.placed;
-      tree = in_parens o c x.tree;
-      plainly = ap (λ q. at (symbol symbol.OpenParen) o ∷ q) x.plainly ∙ sym e;
-      within = (h, x.within);
-      phrase = parens x.phrase;
-      means = record { first = x.means.first; meant = x.means.meant };
-    } }
+  parens_read {o = o} {c = c} {f = f} e inner g = record {
+    before = λ r p w.
+        let x : Spells (Expr (suc d)) (IsFormula scope f) _ (on (symbol symbol.CloseParen) c d ∷ r) = inner.before (on (symbol symbol.CloseParen) c d ∷ r) (ap (λ q. at (symbol symbol.CloseParen) c ∷ q) p ∙ sym g) (h, w) in record {
+          placed = on (symbol symbol.OpenParen) o d ∷ x.placed;
+          tree = in_parens o c x.tree;
+          plainly = ap (λ q. at (symbol symbol.OpenParen) o ∷ q) x.plainly ∙ sym e;
+          within = (h, x.within);
+          phrase = parens x.phrase;
+          means = record { first = x.means.first; meant = x.means.meant };
+        };
+  }
 
   -- an operand alone
   pub operand_reads : {ts us : List Tok} {f : Fo} → Reads (Prim d) (IsFormula scope f) ts us → Reads (Notx d) (IsFormula scope f) ts us
-  operand_reads inner = record { before = λ r p w.
-    let x : Spells (Prim d) _ _ r = inner.before r p w in record {
-      placed = x.placed;
-      tree = x.tree;
-      plainly = x.plainly;
-      within = x.within;
-      phrase = comparison (cmp (sum x.phrase no_sum) no_cmp);
-      means = x.means;
-    } }
+  operand_reads inner = record {
+    before = λ r p w.
+        let x : Spells (Prim d) _ _ r = inner.before r p w in record {
+          placed = x.placed;
+          tree = x.tree;
+          plainly = x.plainly;
+          within = x.within;
+          phrase = comparison (cmp (sum x.phrase no_sum) no_cmp);
+          means = x.means;
+        };
+  }
 
   pub not_reads : {ts us vs : List Tok} {s : Span} {f : Fo} → ts ≡ at (symbol symbol.Not) s ∷ us → Reads (Notx (suc d)) (IsFormula scope f) us vs
       → Reads (Notx d) (IsFormula scope (Not f)) ts vs
-  not_reads {s = s} e inner = record { before = λ r p w.
-    let x : Spells (Notx (suc d)) _ _ r = inner.before r p w in record {
-      placed = on (symbol symbol.Not) s d ∷ x.placed;
-      tree = not_part s x.tree;
-      plainly = ap (λ q. at (symbol symbol.Not) s ∷ q) x.plainly ∙ sym e;
-      within = (h, x.within);
-      phrase = negated x.phrase;
-      means = record { first = x.means.first; meant = not x.means.meant };
-    } }
+  not_reads {s = s} e inner = record {
+    before = λ r p w.
+        let x : Spells (Notx (suc d)) _ _ r = inner.before r p w in record {
+          placed = on (symbol symbol.Not) s d ∷ x.placed;
+          tree = not_part s x.tree;
+          plainly = ap (λ q. at (symbol symbol.Not) s ∷ q) x.plainly ∙ sym e;
+          within = (h, x.within);
+          phrase = negated x.phrase;
+          means = record { first = x.means.first; meant = not x.means.meant };
+        };
+  }
 
   -- a chain of one operand is that operand
   pub and_alone : {ts us : List Tok} {f : Fo} → Reads (Notx d) (IsFormula scope f) ts us → Reads (Andx d) (IsFormula scope f) ts us
-  and_alone inner = record { before = λ r p w.
-    let x : Spells (Notx d) _ _ r = inner.before r p w in record {
-      placed = x.placed;
-      tree = and_part x.tree [];
-      plainly = x.plainly;
-      within = x.within;
-      phrase = and x.phrase no_and;
-      means = record { first = x.means.first; meant = x.means.meant };
-    } }
+  and_alone inner = record {
+    before = λ r p w.
+        let x : Spells (Notx d) _ _ r = inner.before r p w in record {
+          placed = x.placed;
+          tree = and_part x.tree [];
+          plainly = x.plainly;
+          within = x.within;
+          phrase = and x.phrase no_and;
+          means = record { first = x.means.first; meant = x.means.meant };
+        };
+  }
 
   pub or_alone : {ts us : List Tok} {f : Fo} → Reads (Andx d) (IsFormula scope f) ts us → Reads (Orx d) (IsFormula scope f) ts us
-  or_alone inner = record { before = λ r p w.
-    let x : Spells (Andx d) _ _ r = inner.before r p w in record {
-      placed = x.placed;
-      tree = or_part x.tree [];
-      plainly = x.plainly;
-      within = x.within;
-      phrase = or x.phrase no_or;
-      means = record { first = x.means.first; meant = x.means.meant };
-    } }
+  or_alone inner = record {
+    before = λ r p w.
+        let x : Spells (Andx d) _ _ r = inner.before r p w in record {
+          placed = x.placed;
+          tree = or_part x.tree [];
+          plainly = x.plainly;
+          within = x.within;
+          phrase = or x.phrase no_or;
+          means = record { first = x.means.first; meant = x.means.meant };
+        };
+  }
 
   pub expr_alone : {ts us : List Tok} {f : Fo} → Reads (Orx d) (IsFormula scope f) ts us → Reads (Expr d) (IsFormula scope f) ts us
-  expr_alone inner = record { before = λ r p w.
-    let x : Spells (Orx d) _ _ r = inner.before r p w in record {
-      placed = x.placed;
-      tree = x.tree;
-      plainly = x.plainly;
-      within = x.within;
-      phrase = expr x.phrase no_right;
-      means = x.means;
-    } }
+  expr_alone inner = record {
+    before = λ r p w.
+        let x : Spells (Orx d) _ _ r = inner.before r p w in record {
+          placed = x.placed;
+          tree = x.tree;
+          plainly = x.plainly;
+          within = x.within;
+          phrase = expr x.phrase no_right;
+          means = x.means;
+        };
+  }
 
   pub implies_reads : {ts us vs ws : List Tok} {s : Span} {f g : Fo} → Reads (Orx d) (IsFormula scope f) ts us → us ≡ at (symbol symbol.Implies) s ∷ vs
       → Reads (Expr (suc d)) (IsFormula scope g) vs ws → Reads (Expr d) (IsFormula scope (Implies f g)) ts ws
-  implies_reads {s = s} left e right_ = record { before = λ r p w.
-    let y : Spells (Expr (suc d)) _ _ r = right_.before r p w in
-    let behind : List Placed = on (symbol symbol.Implies) s d ∷ y.placed in
-    let x : Spells (Orx d) _ _ behind = left.before behind (ap (λ q. at (symbol symbol.Implies) s ∷ q) y.plainly ∙ sym e) (h, y.within) in record {
-      placed = x.placed;
-      tree = between ExprForm.implies x.tree y.tree;
-      plainly = x.plainly;
-      within = x.within;
-      phrase = expr x.phrase (right y.phrase);
-      means = record { first = both_true _ _ x.means.first y.means.first; meant = implies x.means.meant y.means.meant };
-    } }
+  implies_reads {s = s} left e right_ = record {
+    before = λ r p w.
+        let y : Spells (Expr (suc d)) _ _ r = right_.before r p w in
+        let behind : List Placed = on (symbol symbol.Implies) s d ∷ y.placed in
+        let x : Spells (Orx d) _ _ behind = left.before behind (ap (λ q. at (symbol symbol.Implies) s ∷ q) y.plainly ∙ sym e) (h, y.within) in record {
+          placed = x.placed;
+          tree = between ExprForm.implies x.tree y.tree;
+          plainly = x.plainly;
+          within = x.within;
+          phrase = expr x.phrase (right y.phrase);
+          means = record { first = both_true _ _ x.means.first y.means.first; meant = implies x.means.meant y.means.meant };
+        };
+  }
 
 -- ---- chains of two operands and more
 
@@ -184,14 +204,18 @@ module _ {scope : List Name} {d : ℕ} (h : d ≤ 64) where
       → us ≡ at (symbol symbol.And) s ∷ vs → Reads (Notx d) (IsFormula scope g) vs ws → Reads (Andx d) (IsFormula scope (And (fos_of (fs ++ g ∷ [])))) ts ws
   and_ends [] so_far e inner = absurd (omega (arith, so_far.some))
   and_ends (f ∷ fs) {g = g} so_far e inner =
-    let whole : Reads (Members (Notx d) (AndMore d)) (AreFormulas scope ((f ∷ (fs ++ g ∷ [])) ++ [])) _ _ = (and_next so_far e inner).with_more [] _ no_more_and in
-    record { before = λ r p w. let x : Spells (Members (Notx d) (AndMore d)) (AreFormulas scope ((f ∷ (fs ++ g ∷ [])) ++ [])) _ r = whole.before r p w in
-      and_spelt f fs g x.tree x.plainly x.within x.phrase (rw append-nil at x.means) }
+      let whole : Reads (Members (Notx d) (AndMore d)) (AreFormulas scope ((f ∷ (fs ++ g ∷ [])) ++ [])) _ _ = (and_next so_far e inner).with_more [] _ no_more_and in
+      record {
+        before = λ r p w. let x : Spells (Members (Notx d) (AndMore d)) (AreFormulas scope ((f ∷ (fs ++ g ∷ [])) ++ [])) _ r = whole.before r p w in
+            and_spelt f fs g x.tree x.plainly x.within x.phrase (rw append-nil at x.means);
+      }
 
   pub or_ends : (fs : List Fo) {g : Fo} {s : Span} {ts us vs ws : List Tok} → Gathers (Andx d) (OrMore d) scope fs ts us
       → us ≡ at (symbol symbol.Or) s ∷ vs → Reads (Andx d) (IsFormula scope g) vs ws → Reads (Orx d) (IsFormula scope (Or (fos_of (fs ++ g ∷ [])))) ts ws
   or_ends [] so_far e inner = absurd (omega (arith, so_far.some))
   or_ends (f ∷ fs) {g = g} so_far e inner =
-    let whole : Reads (Members (Andx d) (OrMore d)) (AreFormulas scope ((f ∷ (fs ++ g ∷ [])) ++ [])) _ _ = (or_next so_far e inner).with_more [] _ no_more_or in
-    record { before = λ r p w. let x : Spells (Members (Andx d) (OrMore d)) (AreFormulas scope ((f ∷ (fs ++ g ∷ [])) ++ [])) _ r = whole.before r p w in
-      or_spelt f fs g x.tree x.plainly x.within x.phrase (rw append-nil at x.means) }
+      let whole : Reads (Members (Andx d) (OrMore d)) (AreFormulas scope ((f ∷ (fs ++ g ∷ [])) ++ [])) _ _ = (or_next so_far e inner).with_more [] _ no_more_or in
+      record {
+        before = λ r p w. let x : Spells (Members (Andx d) (OrMore d)) (AreFormulas scope ((f ∷ (fs ++ g ∷ [])) ++ [])) _ r = whole.before r p w in
+            or_spelt f fs g x.tree x.plainly x.within x.phrase (rw append-nil at x.means);
+      }

@@ -70,7 +70,12 @@ pub(crate) fn assertion(at: Span, condition: Boxed<Formula>) -> Stmt
     }
 }
 
-pub(crate) fn branching(at: Span, condition: Boxed<Formula>, body: List<Stmt>, otherwise: List<Stmt>) -> Stmt
+pub(crate) fn branching(
+    at: Span,
+    condition: Boxed<Formula>,
+    body: List<Stmt>,
+    otherwise: List<Stmt>,
+) -> Stmt
     ensures seen { stmt_view result ≡ st.If at (formula_view condition) (stmts_view body) (stmts_view otherwise) }
     ensures stands { result.at ≡ at }
 {

@@ -15,3 +15,4 @@ pub mod Tables
 pub mod Toks
 pub mod Computed
 pub mod Rows
+pub mod Extents

@@ -9,7 +9,7 @@ use Rattle.std.specs.FinMap.{from_entries, get}
 use Rattle.rp_io.specs.Counts.{raised}
 use Rattle.rp_io.specs.Files.{Contents}
 
--- a name and the bytes under it
+-- a name, and the bytes under it
 abbrev pub Entry : Type 0
 Entry = List ℕ × List ℕ
 
@@ -23,10 +23,12 @@ contents_of entries = from_entries entries
 abbrev pub names_of : List Entry → List (List ℕ)
 names_of entries = map (λ e. e.0) entries
 
--- files of which some calls fail: the entries and the numbers of those calls, and how many calls were made, failed and gave bytes
+-- files of which some calls fail
 pub record MemFilesState : Type 0 where
   pub entries : List Entry
+  -- the numbers of the calls that fail, from 0
   pub failing : List ℕ
+  -- how many calls were made, how many of them failed, and how many bytes were given
   pub calls : ℕ
   pub faults : ℕ
   pub given : ℕ

@@ -8,11 +8,13 @@ pub record BufferState : Type 0 where
   pub bytes : List ℕ
   pub left : ℕ
 
--- a sink of which some calls fail: also the numbers of those calls, and how many calls were made and failed
+-- a sink of which some calls fail
 pub record MemSinkState : Type 0 where
   pub bytes : List ℕ
   pub left : ℕ
+  -- the numbers of the calls that fail, from 0
   pub failing : List ℕ
+  -- how many calls were made, and how many of them failed
   pub calls : ℕ
   pub faults : ℕ
 
@@ -31,6 +33,7 @@ pub record SureSinkState : Type 0 where
   pub left : ℕ
   pub faults : ℕ
 
+-- that sink after a call
 abbrev pub after_sure_put : {A E : Type 0} → SureSinkState → List ℕ → Result A E → SureSinkState
 after_sure_put sink piece (Ok done) = record sink { bytes = sink.bytes ++ piece; left = sink.left - length piece }
 after_sure_put sink piece (Err e) = record sink { faults = raised sink.faults 1 }

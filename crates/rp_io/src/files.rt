@@ -19,8 +19,8 @@ pub trait Files {
     /// How many bytes were given.
     ghost given: { Self → ℕ };
 
-    /// Reads bytes from a place of the file on into the front of the buffer, and answers how many: 0 is the end.
-    /// At `Failed` the buffer holds any bytes. Nothing is said of the content of a name that isn't told.
+    /// Reads bytes from a place of the file on into the front of the buffer, and answers how many:
+    /// none at the end of the file alone. At `Failed` the buffer holds any bytes.
     fn fetch(&mut self, name: &str, from: u64, buf: &mut [u8]) -> Result<usize, Failed>
         requires { 0 < length buf.old }
         ensures same_told { told self.new ≡ told self.old }

@@ -4,7 +4,8 @@ ghost use Rattle.rp_io.specs.Sinks.{Puts, PutsPrefix, TakesRoom, bytes_of};
 
 use crate::{Failed, Sink};
 
-/// Puts each line, with its newline, by a call of its own. At `Failed` a prefix of all lines was appended.
+/// Puts each line, which ends in its newline, by a call of its own. At `Failed` a prefix of all lines
+/// was appended.
 pub fn put_lines<K: Sink>(out: &mut K, lines: &[Vec<u8>]) -> Result<(), Failed>
     ensures ok { OnOk result (Puts (K.told out.old) (K.told out.new) (bytes_of lines.now)) }
     ensures prefix { OnErr result (PutsPrefix (K.told out.old) (K.told out.new) (bytes_of lines.now)) }

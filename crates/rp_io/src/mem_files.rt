@@ -11,7 +11,8 @@ use std::marker::Model;
 
 /// The content that stands first under the name.
 fn content<'a>(files: &'a [(String, Vec<u8>)], name: &str) -> Option<&'a [u8]>
-    ensures { get (contents_of (entries_of files.now)) name.now ≡ option_map (λ bytes. bytes.now) result }
+    ensures { get (contents_of (entries_of files.now)) name.now
+        ≡ option_map (λ bytes. bytes.now) result }
 {
     for (listed, bytes) in files {
         if name == listed.as_str() {
@@ -30,7 +31,8 @@ fn content_at<'a>(
 ) -> Option<&'a [u8]>
     ensures fails { IsNone result ↔ (Contains failing.now call
         ⊎ (get (contents_of (entries_of files.now)) name.now ≡ None)) }
-    ensures content { IfSome result (λ bytes. get (contents_of (entries_of files.now)) name.now ≡ Some bytes.now) }
+    ensures content { IfSome result (λ bytes.
+        get (contents_of (entries_of files.now)) name.now ≡ Some bytes.now) }
 {
     if failing.contains(&call) {
         None
@@ -55,7 +57,8 @@ fn copy_from(content: &[u8], from: u64, buf: &mut [u8]) -> usize
     n
 }
 
-/// Files in memory. Their calls of the numbers in `failing`, from 0, fail, as does each call on a name that isn't listed.
+/// Files in memory. Their calls of the numbers in `failing`, from 0, fail, as does each call on a
+/// name that isn't listed.
 #[derive(Drop)]
 pub struct MemFiles {
     files: Vec<(String, Vec<u8>)>,
@@ -70,13 +73,25 @@ impl Model for MemFiles {
 
     ghost Value = { MemFilesState };
 
-    ghost view = { λ s. record { entries = entries_of s.files.items; failing = s.failing.items; calls = s.calls; faults = s.faults; given = s.given } };
+    ghost view = { λ s. record {
+      entries = entries_of s.files.items;
+      failing = s.failing.items;
+      calls = s.calls;
+      faults = s.faults;
+      given = s.given;
+    } };
 }
 
 impl MemFiles {
     /// Of two entries of one name the first counts.
     pub fn new(files: Vec<(String, Vec<u8>)>, failing: Vec<u64>) -> MemFiles
-        ensures { result ≡ record { entries = entries_of files.items; failing = failing.items; calls = 0; faults = 0; given = 0 } }
+        ensures { result ≡ record {
+          entries = entries_of files.items;
+          failing = failing.items;
+          calls = 0;
+          faults = 0;
+          given = 0;
+        } }
     {
         MemFiles {
             files,
@@ -104,8 +119,10 @@ impl Files for MemFiles {
         ensures after { self.new ≡ after_fetch self.old result }
         ensures within { IfOk result (λ n. n ≤ length buf.new) }
         ensures content { IfOk result (λ n.
-            IfSome (get (contents_of self.old.entries) name.now) (λ content. Fetches content from n buf.new)) }
-        ensures sound_names { Contains (sound_names self.old.failing (names_of self.old.entries)) name.now → IsOk result }
+            IfSome (get (contents_of self.old.entries) name.now) (λ content.
+            Fetches content from n buf.new)) }
+        ensures sound_names { Contains (sound_names self.old.failing (names_of self.old.entries)) name.now
+            → IsOk result }
     {
         let call = self.calls;
         self.calls = call.saturating_add(1);
@@ -160,10 +177,12 @@ impl Files for SureFiles {
     fn fetch(&mut self, name: &str, from: u64, buf: &mut [u8]) -> Result<usize, Failed>
         requires { 0 < length buf.old }
         ensures ok { IsOk result }
-        ensures after { IfOk result (λ n. self.new ≡ record self.old { given = raised self.old.given n }) }
+        ensures after { IfOk result (λ n.
+            self.new ≡ record self.old { given = raised self.old.given n }) }
         ensures within { IfOk result (λ n. n ≤ length buf.new) }
         ensures content { IfOk result (λ n.
-            MatchOption (get (contents_of self.old.entries) name.now) (n ≡ 0) (λ content. Fetches content from n buf.new)) }
+            MatchOption (get (contents_of self.old.entries) name.now) (n ≡ 0) (λ content.
+            Fetches content from n buf.new)) }
     {
         match content(&self.files, name) {
             Some(bytes) => {

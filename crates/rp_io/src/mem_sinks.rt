@@ -22,13 +22,25 @@ impl Model for MemSink {
 
     ghost Value = { MemSinkState };
 
-    ghost view = { λ s. record { bytes = s.buffer.bytes; left = s.buffer.left; failing = s.failing.items; calls = s.calls; faults = s.faults } };
+    ghost view = { λ s. record {
+      bytes = s.buffer.bytes;
+      left = s.buffer.left;
+      failing = s.failing.items;
+      calls = s.calls;
+      faults = s.faults;
+    } };
 }
 
 impl MemSink {
     /// An empty sink with room for n bytes.
     pub fn with_room(alloc: Global, n: usize, failing: Vec<u64>) -> Result<MemSink, Memory>
-        ensures { IfOk result (λ sink. sink ≡ record { bytes = []; left = n; failing = failing.items; calls = 0; faults = 0 }) }
+        ensures { IfOk result (λ sink. sink ≡ record {
+          bytes = [];
+          left = n;
+          failing = failing.items;
+          calls = 0;
+          faults = 0;
+        }) }
     {
         let buffer = Buffer::with_room(alloc, n)?;
         Ok(MemSink {

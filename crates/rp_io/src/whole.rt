@@ -11,10 +11,13 @@ use thiserror::Error;
 /// Why a file wasn't read.
 #[derive(Clone, Copy, Debug, PartialEq, Eq, Error)]
 pub enum ReadErr {
+    /// A call failed.
     #[error("the file can't be read")]
     Failed,
+    /// The file has more bytes than the limit.
     #[error("the file is too long")]
     TooLong,
+    /// Memory ran out.
     #[error("out of memory")]
     Memory,
 }
@@ -55,11 +58,13 @@ fn read_piece<F: Files>(
     ensures given_few { F.given files.new ≤ F.given files.old + length piece.old }
     ensures prefix { OnOk result (PrefixOfTold (content_of (F.told files.old) name.now) bytes.old.items
         → PrefixOfTold (content_of (F.told files.old) name.now) bytes.new.items) }
-    ensures all { IfOk result (λ n. n ≡ 0 → PrefixOfTold (content_of (F.told files.old) name.now) bytes.old.items
+    ensures all { IfOk result (λ n. n ≡ 0
+        → PrefixOfTold (content_of (F.told files.old) name.now) bytes.old.items
         → IfSome (content_of (F.told files.old) name.now) (λ content. bytes.new.items ≡ content)) }
     ensures never_falls { F.faults files.old ≤ F.faults files.new }
     ensures no_fault { OnOk result (F.faults files.new ≡ F.faults files.old) }
-    ensures no_fault_memory { IsErrOf result ReadErr.Memory → F.faults files.new ≡ F.faults files.old }
+    ensures no_fault_memory { IsErrOf result ReadErr.Memory
+        → F.faults files.new ≡ F.faults files.old }
     ensures failed { IsErrOf result ReadErr.Failed → Rose (F.faults files.old) (F.faults files.new) }
     ensures sound_names { Contains (F.sound files.old) name.now → result ≢ Err ReadErr.Failed }
     ensures not_long { result ≢ Err ReadErr.TooLong }
@@ -74,7 +79,7 @@ fn read_piece<F: Files>(
     }
 }
 
-/// The whole file, of at most `limit` bytes.
+/// The whole file, of at most `limit` bytes. No more than one byte past the limit is taken.
 pub fn read_all<F: Files>(
     alloc: Global,
     files: &mut F,
@@ -87,17 +92,24 @@ pub fn read_all<F: Files>(
     ensures too_long { IsErrOf result ReadErr.TooLong
         → IfSome (content_of (F.told files.old) name.now) (λ content. limit < length content) }
 
-    ensures given { IfOk result (λ bytes. F.given files.new ≡ raised (F.given files.old) (length bytes.items)) }
-    ensures given_too_long { IsErrOf result ReadErr.TooLong → F.given files.new ≡ raised (F.given files.old) (limit + 1) }
+    // What is taken is what the files give in this call.
+    ensures given { IfOk result (λ bytes.
+        F.given files.new ≡ raised (F.given files.old) (length bytes.items)) }
+    ensures given_too_long { IsErrOf result ReadErr.TooLong
+        → F.given files.new ≡ raised (F.given files.old) (limit + 1) }
     ensures given_more { F.given files.old ≤ F.given files.new }
     ensures given_few { F.given files.new ≤ F.given files.old + (limit + 1) }
 
+    // A fault is one of the files, and none is passed over.
     ensures failed { IsErrOf result ReadErr.Failed → Rose (F.faults files.old) (F.faults files.new) }
     ensures sound_names { Contains (F.sound files.old) name.now → result ≢ Err ReadErr.Failed }
     ensures never_falls { F.faults files.old ≤ F.faults files.new }
     ensures no_fault { OnOk result (F.faults files.new ≡ F.faults files.old) }
-    ensures no_fault_too_long { IsErrOf result ReadErr.TooLong → F.faults files.new ≡ F.faults files.old }
-    ensures no_fault_memory { IsErrOf result ReadErr.Memory → F.faults files.new ≡ F.faults files.old }
+    ensures no_fault_too_long { IsErrOf result ReadErr.TooLong
+        → F.faults files.new ≡ F.faults files.old }
+    ensures no_fault_memory { IsErrOf result ReadErr.Memory
+        → F.faults files.new ≡ F.faults files.old }
+
     ensures same_told { F.told files.new ≡ F.told files.old }
     ensures same_sound { F.sound files.new ≡ F.sound files.old }
 {

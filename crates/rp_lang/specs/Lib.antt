@@ -1,6 +1,10 @@
 pub mod Crdts
 pub mod Exprs
+pub mod FirstForm
 pub mod Formulas
-pub mod Stmts
+pub mod Limits
+pub mod ProgramView
 pub mod Programs
+pub mod Sizes
+pub mod Stmts
 pub mod Views

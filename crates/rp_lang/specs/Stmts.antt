@@ -1,5 +1,5 @@
 -- Statements of a procedure as definitions speak of them.
-use Rattle.std.specs.Prelude.{ℕ, List, Option}
+use Rattle.std.specs.Prelude.{ℕ, List}
 use Rattle.rp_span.specs.declared.Span.{Span}
 use Rattle.rp_lang.specs.Exprs.{Ex, Exs}
 use Rattle.rp_lang.specs.Formulas.{Fo}

@@ -1,20 +1,26 @@
 -- What definitions speak of, of the types of the program's code.
-use Rattle.std.specs.Prelude.{ℕ, List, [], ◌∷◌, map, Option, Some, None}
+use Rattle.std.specs.Prelude.{ℕ, List, [], ◌∷◌, map, Some, None}
 use Rattle.rp_span.specs.declared.Span.{Span}
 use Rattle.rp_lang.specs.declared.crdt.Crdt.{Crdt}
+use Rattle.rp_lang.specs.declared.crdt.Field.{Field}
 use Rattle.rp_lang.specs.declared.crdt.Crdt.TheOpen as crdt
-use Rattle.rp_lang.specs.declared.crdt.Crdt.TheFolds.{fold-Crdt}
+use Rattle.rp_lang.specs.declared.crdt.Crdt.TheFolds.{fold-Crdt, fold-Field}
 use Rattle.rp_lang.specs.declared.expr.Expr.{Expr}
 use Rattle.rp_lang.specs.declared.expr.Expr.TheOpen as expr
 use Rattle.rp_lang.specs.declared.expr.Expr.TheFolds.{fold-Expr}
 use Rattle.rp_lang.specs.declared.formula.Formula.{Formula}
 use Rattle.rp_lang.specs.declared.formula.Arm.{Arm}
 use Rattle.rp_lang.specs.declared.formula.Formula.TheOpen as formula
-use Rattle.rp_lang.specs.declared.formula.Formula.TheFolds.{fold-Formula}
+use Rattle.rp_lang.specs.declared.formula.Formula.TheFolds.{fold-Formula, fold-Arm}
 use Rattle.rp_lang.specs.declared.stmt.Stmt.{Stmt}
 use Rattle.rp_lang.specs.declared.stmt.StmtArm.{StmtArm}
+use Rattle.rp_lang.specs.declared.stmt.StmtKind.{StmtKind}
 use Rattle.rp_lang.specs.declared.stmt.StmtKind.TheOpen as stmt
-use Rattle.rp_lang.specs.declared.stmt.StmtKind.TheFolds.{fold-Stmt, fold-StmtArm}
+use Rattle.rp_lang.specs.declared.stmt.StmtKind.TheFolds.{fold-StmtKind, fold-Stmt, fold-StmtArm}
+use Rattle.rp_value.specs.declared.tables.TypeTable.{TypeTable}
+use Rattle.rp_value.specs.declared.tables.ConTable.{ConTable}
+use Rattle.rp_lang.specs.declared.op.OpDecl.{OpDecl}
+use Rattle.rp_lang.specs.declared.query.QueryDecl.{QueryDecl}
 use Rattle.rp_lang.specs.declared.root.Root.{Root}
 use Rattle.rp_lang.specs.declared.inv.InvDecl.{InvDecl}
 use Rattle.rp_lang.specs.declared.proc.ProcDecl.{ProcDecl}
@@ -52,6 +58,12 @@ field_step f = (f.name, f.crdt)
 
 abbrev pub crdt_view : Crdt → Cr
 crdt_view = fold-Crdt Cr FieldView crdt_step field_step
+
+abbrev pub crdt_field_view : Field → FieldView
+crdt_field_view = fold-Field Cr FieldView crdt_step field_step
+
+abbrev pub crdt_fields_view : List Field → CrFields
+crdt_fields_view fields = fields_of (map crdt_field_view fields)
 
 -- # Expressions
 
@@ -124,7 +136,7 @@ abbrev pub formulas_view : List Formula → Fos
 formulas_view fs = fos_of (map formula_view fs)
 
 abbrev pub arm_view : Arm → ArmView
-arm_view a = (a.con, formula_view a.body)
+arm_view = fold-Arm Fo ArmView formula_step arm_step
 
 abbrev pub arms_view : List Arm → Arms
 arms_view arms = arms_of (map arm_view arms)
@@ -164,6 +176,9 @@ stmt_step s = s.what s.at
 abbrev pub stmt_arm_step : stmt.StmtArm-F Placed St StArmView → StArmView
 stmt_arm_step a = (a.con, a.slots, sts_of a.body)
 
+abbrev pub kind_view : StmtKind → Placed
+kind_view = fold-StmtKind Placed St StArmView kind_step stmt_step stmt_arm_step
+
 abbrev pub stmt_view : Stmt → St
 stmt_view = fold-Stmt Placed St StArmView kind_step stmt_step stmt_arm_step
 
@@ -193,4 +208,16 @@ proc_view p = record {
   result = p.result;
   slots = p.slots;
   body = stmts_view p.body;
+}
+
+-- the program with these parts
+abbrev pub parts_view : TypeTable → ConTable → List Root → List OpDecl → List QueryDecl → List InvDecl → List ProcDecl → Prog
+parts_view types cons roots ops queries invs procs = record {
+  types = types;
+  cons = cons;
+  roots = map root_view roots;
+  ops = ops;
+  queries = queries;
+  invs = map inv_view invs;
+  procs = map proc_view procs;
 }

@@ -1,3 +1,7 @@
+ghost use Rattle.std.specs.Prelude.{◌≡◌, ◌≤◌, ◌↔◌, min, IsTrue};
+ghost use Rattle.rp_lang.specs.Sizes.{fo_depth, fos_depth, arms_depth, fo_nodes, fos_nodes, arms_nodes};
+ghost use Rattle.rp_lang.specs.Views.{formula_view, formulas_view, arms_view};
+
 use crate::expr::Expr;
 use rp_value::{Boxed, List, Ty};
 
@@ -30,4 +34,115 @@ pub enum Formula {
 pub struct Arm {
     pub con: u32,
     pub body: Formula,
+}
+
+impl Formula {
+    /// Whether the depth is at most `limit`. The expressions in it are parts of it.
+    #[cycle(formula_depth)]
+    #[tactic(auto, using(crate::proofs::FormulaViews::formula_views))]
+    pub fn is_within(&self, limit: u32) -> bool
+        ensures { IsTrue result ↔ (fo_depth (formula_view self.now) ≤ limit) }
+    {
+        if limit == 0 {
+            return false;
+        }
+        let less = limit - 1;
+        match self {
+            Formula::And(parts) | Formula::Or(parts) => are_within(parts.as_slice(), less),
+            Formula::Not(f) | Formula::All(_, f) | Formula::Any(_, f) => f.get().is_within(less),
+            Formula::Implies(a, b) => a.get().is_within(less) && b.get().is_within(less),
+            Formula::Holds(e) | Formula::Visible(e) => e.is_within(less),
+            Formula::Equal(a, b)
+            | Formula::Less(a, b)
+            | Formula::AtMost(a, b)
+            | Formula::Before(a, b)
+            | Formula::Same(a, b) => a.is_within(less) && b.is_within(less),
+            Formula::Match(on, arms) => on.is_within(less)
+                && arms_are_within(arms.as_slice(), less),
+        }
+    }
+}
+
+#[cycle(formula_depth)]
+#[tactic(auto, using(crate::proofs::FormulaViews::formula_views))]
+fn are_within(parts: &[Formula], limit: u32) -> bool
+    ensures { IsTrue result ↔ (fos_depth (formulas_view parts.now) ≤ limit) }
+{
+    for part in parts {
+        if !part.is_within(limit) {
+            return false;
+        }
+    }
+    true
+}
+
+#[cycle(formula_depth)]
+#[tactic(auto, using(crate::proofs::FormulaViews::formula_views))]
+fn arms_are_within(arms: &[Arm], limit: u32) -> bool
+    ensures { IsTrue result ↔ (arms_depth (arms_view arms.now) ≤ limit) }
+{
+    for arm in arms {
+        if !arm.body.is_within(limit) {
+            return false;
+        }
+    }
+    true
+}
+
+impl Formula {
+    /// The number of nodes, or the greatest number where there are more.
+    #[cycle(formula_nodes)]
+    #[tactic(auto, using(crate::proofs::FormulaViews::formula_views))]
+    pub fn nodes(&self) -> u64
+        ensures { result ≡ min (fo_nodes (formula_view self.now)) 18446744073709551615 }
+    {
+        match self {
+            Formula::And(parts) | Formula::Or(parts) => formulas_nodes(
+                parts.as_slice(),
+            ).saturating_add(1),
+            Formula::Not(f) | Formula::All(_, f) | Formula::Any(_, f) => f
+                .get()
+                .nodes()
+                .saturating_add(1),
+            Formula::Implies(a, b) => a
+                .get()
+                .nodes()
+                .saturating_add(b.get().nodes())
+                .saturating_add(1),
+            Formula::Holds(e) | Formula::Visible(e) => e.nodes().saturating_add(1),
+            Formula::Equal(a, b)
+            | Formula::Less(a, b)
+            | Formula::AtMost(a, b)
+            | Formula::Before(a, b)
+            | Formula::Same(a, b) => a.nodes().saturating_add(b.nodes()).saturating_add(1),
+            Formula::Match(on, arms) => on
+                .nodes()
+                .saturating_add(arms_nodes(arms.as_slice()))
+                .saturating_add(1),
+        }
+    }
+}
+
+#[cycle(formula_nodes)]
+#[tactic(auto, using(crate::proofs::FormulaViews::formula_views))]
+fn formulas_nodes(parts: &[Formula]) -> u64
+    ensures { result ≡ min (fos_nodes (formulas_view parts.now)) 18446744073709551615 }
+{
+    let mut nodes: u64 = 0;
+    for part in parts {
+        nodes = nodes.saturating_add(part.nodes());
+    }
+    nodes
+}
+
+#[cycle(formula_nodes)]
+#[tactic(auto, using(crate::proofs::FormulaViews::formula_views))]
+fn arms_nodes(arms: &[Arm]) -> u64
+    ensures { result ≡ min (arms_nodes (arms_view arms.now)) 18446744073709551615 }
+{
+    let mut nodes: u64 = 0;
+    for arm in arms {
+        nodes = nodes.saturating_add(arm.body.nodes());
+    }
+    nodes
 }

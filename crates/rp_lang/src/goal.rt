@@ -2,7 +2,7 @@ use rp_span::Span;
 use rp_value::List;
 
 /// What a goal is about: its kind, its procedure and the path through it, its place, and its invariant.
-#[derive(Debug, Drop)]
+#[derive(Debug, Drop, PartialEq, Eq)]
 pub struct GoalName {
     pub kind: GoalKind,
     pub proc: Option<u32>,

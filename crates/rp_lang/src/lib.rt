@@ -4,6 +4,7 @@
 mod crdt;
 mod event;
 mod expr;
+mod first_form;
 mod formula;
 mod goal;
 mod inv;

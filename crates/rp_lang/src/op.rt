@@ -1,7 +1,7 @@
 use rp_value::{List, Ty};
 
 /// An operation on the part of a root that a path leads to. Operation 0 of a program is `tx`.
-#[derive(Debug, Drop)]
+#[derive(Debug, Drop, PartialEq, Eq)]
 pub struct OpDecl {
     pub root: u32,
     pub path: List<PathStep>,

@@ -1,11 +1,17 @@
+ghost use Rattle.std.specs.Prelude.{◌≡◌, ◌↔◌, [], ◌∷◌, map, IsTrue, IsSome, IfOk, IfSome};
+ghost use Rattle.rp_lang.specs.FirstForm as spec;
+ghost use Rattle.rp_lang.specs.Views.{proc_view};
+
+use crate::first_form::are_over_truth_values;
 use crate::inv::InvDecl;
-use crate::op::OpDecl;
+use crate::op::{OpDecl, OpKind};
 use crate::proc::ProcDecl;
 use crate::query::QueryDecl;
 use crate::root::Root;
-use rp_value::{ConTable, List, TypeTable};
+use rp_value::{AtomType, ConDecl, ConTable, DataDecl, List, Memory, TypeTable, copy_bytes};
+use std::alloc::Global;
 
-/// A program.
+/// A program over truth values: procedures of `Bool` parameters that branch and assert, and no data.
 #[derive(Debug, Drop)]
 pub struct Program {
     pub types: TypeTable,
@@ -15,4 +21,78 @@ pub struct Program {
     pub queries: List<QueryDecl>,
     pub invs: List<InvDecl>,
     pub procs: List<ProcDecl>,
+    pub ghost only_bool: { types ≡ spec.bool_types },
+    pub ghost only_truth_values: { cons ≡ spec.bool_cons },
+    pub ghost no_roots: { roots ≡ [] },
+    pub ghost only_tx: { ops ≡ spec.tx ∷ [] },
+    pub ghost no_queries: { queries ≡ [] },
+    pub ghost no_invs: { invs ≡ [] },
+    pub ghost over_truth_values: { IsTrue (spec.are_over_truth_values (map proc_view procs)) },
 }
+
+impl Program {
+    ghost use Rattle.rp_lang.specs.ProgramView.{program_view};
+
+    /// The program of these procedures, where they are over truth values.
+    pub fn first_form(alloc: Global, procs: List<ProcDecl>) -> Result<Option<Program>, Memory>
+        ensures some { IfOk result (λ found. IsSome found ↔ IsTrue (spec.are_over_truth_values (map proc_view procs))) }
+        ensures program { IfOk result (λ found. IfSome found (λ p. program_view p ≡ spec.over_truth_values (map proc_view procs))) }
+    {
+        if !are_over_truth_values(procs.as_slice()) {
+            return Ok(None);
+        }
+        let mut ops = List::new(alloc);
+        ops.push(OpDecl {
+            root: 0,
+            path: List::new(alloc),
+            kind: OpKind::Tx,
+            args: List::new(alloc),
+        })?;
+        Ok(Some(Program {
+            types: bool_types(alloc)?,
+            cons: bool_cons(alloc)?,
+            roots: List::new(alloc),
+            ops,
+            queries: List::new(alloc),
+            invs: List::new(alloc),
+            procs,
+        }))
+    }
+}
+
+fn bool_types(alloc: Global) -> Result<TypeTable, Memory>
+    ensures { IfOk result (λ types. types ≡ spec.bool_types) }
+{
+    let mut cons = List::new(alloc);
+    cons.push(0)?;
+    cons.push(1)?;
+    let mut datatypes = List::new(alloc);
+    datatypes.push(DataDecl {
+        name: copy_bytes(alloc, b"Bool")?,
+        cons,
+    })?;
+    Ok(TypeTable {
+        atoms: List::new(alloc),
+        datatypes,
+    })
+}
+
+fn bool_cons(alloc: Global) -> Result<ConTable, Memory>
+    ensures { IfOk result (λ cons. cons ≡ spec.bool_cons) }
+{
+    let mut cons = List::new(alloc);
+    cons.push(ConDecl {
+        name: copy_bytes(alloc, b"false")?,
+        of: 0,
+        fields: List::new(alloc),
+    })?;
+    cons.push(ConDecl {
+        name: copy_bytes(alloc, b"true")?,
+        of: 0,
+        fields: List::new(alloc),
+    })?;
+    Ok(ConTable { cons })
+}
+
+#[cfg(test)]
+mod tests;

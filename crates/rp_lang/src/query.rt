@@ -2,7 +2,7 @@ use crate::op::PathStep;
 use rp_value::{List, Ty};
 
 /// A query of the part of a root that a path leads to.
-#[derive(Debug, Drop)]
+#[derive(Debug, Drop, PartialEq, Eq)]
 pub struct QueryDecl {
     pub root: u32,
     pub path: List<PathStep>,

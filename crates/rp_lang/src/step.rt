@@ -1,7 +1,10 @@
-use rp_value::{List, Value};
+ghost use Rattle.std.specs.Prelude.{◌≡◌, IfOk};
+
+use rp_value::{List, Memory, Value, copy_list, copy_values};
+use std::alloc::Global;
 
 /// One step of a run. A list `sees` is strictly ascending.
-#[derive(Debug, Drop)]
+#[derive(Debug, Drop, PartialEq, Eq)]
 pub enum Step {
     Invoke {
         proc: u32,
@@ -46,4 +49,56 @@ pub enum Action {
     New,
     Commit,
     Return,
+}
+
+impl Step {
+    /// An equal step.
+    pub fn copy(&self, alloc: Global) -> Result<Step, Memory>
+        ensures { IfOk result (λ copy. copy ≡ self.now) }
+    {
+        match self {
+            Step::Invoke { proc, args } => Ok(Step::Invoke {
+                proc: *proc,
+                args: copy_values(alloc, args.as_slice())?,
+            }),
+            Step::Begin { inv, stamp, sees } => Ok(Step::Begin {
+                inv: *inv,
+                stamp: *stamp,
+                sees: copy_list(alloc, sees.as_slice())?,
+            }),
+            Step::Op { inv, stamp } => Ok(Step::Op {
+                inv: *inv,
+                stamp: *stamp,
+            }),
+            Step::Local { inv } => Ok(Step::Local { inv: *inv }),
+            Step::New { inv, id } => Ok(Step::New {
+                inv: *inv,
+                id: id.copy(alloc)?,
+            }),
+            Step::Commit { inv } => Ok(Step::Commit { inv: *inv }),
+            Step::Return { inv } => Ok(Step::Return { inv: *inv }),
+            Step::Fail { inv } => Ok(Step::Fail { inv: *inv }),
+            Step::Check { sees } => Ok(Step::Check {
+                sees: copy_list(alloc, sees.as_slice())?,
+            }),
+        }
+    }
+}
+
+#[cfg(test)]
+mod tests {
+    use super::*;
+    use std::test::Fail;
+
+    #[test]
+    fn a_copy_is_equal(rt: HostRuntime) -> Result<(), Fail> {
+        let sees = copy_list(rt.alloc(), [0, 2].as_slice())?;
+        let step = Step::Begin {
+            inv: 0,
+            stamp: 7,
+            sees,
+        };
+        assert_eq!(rt; step.copy(rt.alloc())?, step);
+        Ok(())
+    }
 }

@@ -2,38 +2,28 @@
 use Rattle.std.proofs.Common.{◌≡◌, ℕ, true, false, List, refl, sym, ap, ◌∙◌, Option, Some}
 use Rattle.std.specs.Prelude.{IsSome, IsTrue, ◌↔◌}
 use Rattle.std.specs.Option.{is_some}
-use Rattle.rp_grammar.specs.Bytes.{is_one_of, reserved, symbols}
-use Rattle.rp_grammar.specs.Spelling.{spelling, mark, words, marks}
-use Rattle.rp_grammar.specs.declared.terminal.Word.{Word}
-use Rattle.rp_grammar.specs.declared.terminal.Word.TheVariants as word
-use Rattle.rp_grammar.specs.declared.terminal.Symbol.{Symbol}
-use Rattle.rp_grammar.specs.declared.terminal.Symbol.TheVariants as symbol
-use Rattle.rp_grammar.specs.declared.TokenKind.TheVariants as kind
-use Rattle.rp_grammar.specs.Scan.{name_kind}
 use Rattle.std.proofs.lemmas.Bool.{false_from_ne_true, both_ways}
-use Rattle.rp_lexer.specs.Named.{named}
+use Rattle.rp_grammar.specs.Bytes.{is_one_of, reserved, symbols}
+use Rattle.rp_grammar.specs.Scan.{name_kind}
+use Rattle.rp_grammar.specs.Spelling.{spelling, mark, words, marks, word_of, symbol_of}
+use Rattle.rp_grammar.specs.declared.terminal.Word.{Word}
+use Rattle.rp_grammar.specs.declared.terminal.Symbol.{Symbol}
+use Rattle.rp_grammar.specs.declared.TokenKind.TheVariants as kind
+use Rattle.rp_grammar.proofs.Tables.{word_of-spelling, symbol_of-mark}
 use Rattle.rp_lexer.proofs.Named.{found, is_some-named}
 
-named_spelling : (w : Word) → named spelling words (spelling w) ≡ Some w
-named_spelling word.IdType = refl
-named_spelling w = refl
+pub word_spelled : (bs : List ℕ) (result : Option Word) → result ≡ word_of bs → (w : Word) → (result ≡ Some w) ↔ (bs ≡ spelling w)
+word_spelled bs result h w = (λ e. found spelling words bs w (sym h ∙ e), λ e. h ∙ ap word_of e ∙ word_of-spelling w)
 
-named_mark : (m : Symbol) → named mark marks (mark m) ≡ Some m
-named_mark symbol.OpenBrace = refl
-named_mark m = refl
+pub symbol_spelled : (bs : List ℕ) (result : Option Symbol) → result ≡ symbol_of bs → (m : Symbol) → (result ≡ Some m) ↔ (bs ≡ mark m)
+symbol_spelled bs result h m = (λ e. found mark marks bs m (sym h ∙ e), λ e. h ∙ ap symbol_of e ∙ symbol_of-mark m)
 
-pub word_exact : (bs : List ℕ) (result : Option Word) → result ≡ named spelling words bs → (w : Word) → (result ≡ Some w) ↔ (bs ≡ spelling w)
-word_exact bs result h w = (λ e. found spelling words bs w (sym h ∙ e), λ e. h ∙ ap (named spelling words) e ∙ named_spelling w)
-
-pub symbol_exact : (bs : List ℕ) (result : Option Symbol) → result ≡ named mark marks bs → (m : Symbol) → (result ≡ Some m) ↔ (bs ≡ mark m)
-symbol_exact bs result h m = (λ e. found mark marks bs m (sym h ∙ e), λ e. h ∙ ap (named mark marks) e ∙ named_mark m)
-
-pub word_some : (bs : List ℕ) (result : Option Word) → result ≡ named spelling words bs → IsSome result ↔ IsTrue (is_one_of reserved bs)
+pub word_some : (bs : List ℕ) (result : Option Word) → result ≡ word_of bs → IsSome result ↔ IsTrue (is_one_of reserved bs)
 word_some bs result h =
     let e : is_some result ≡ is_one_of reserved bs = ap is_some h ∙ is_some-named spelling words bs in
     (λ some. sym e ∙ some, λ one. e ∙ one)
 
-pub symbol_some : (bs : List ℕ) (result : Option Symbol) → result ≡ named mark marks bs → IsSome result ↔ IsTrue (is_one_of symbols bs)
+pub symbol_some : (bs : List ℕ) (result : Option Symbol) → result ≡ symbol_of bs → IsSome result ↔ IsTrue (is_one_of symbols bs)
 symbol_some bs result h =
     let e : is_some result ≡ is_one_of symbols bs = ap is_some h ∙ is_some-named mark marks bs in
     (λ some. sym e ∙ some, λ one. e ∙ one)

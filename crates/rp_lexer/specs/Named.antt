@@ -1,11 +1,11 @@
 -- Which item of a table some bytes name.
-use Rattle.std.specs.Prelude.{ℕ, ◌==◌, if◌then◌else◌, List, [], ◌∷◌, length, Option, Some, None}
+use Rattle.std.specs.Prelude.{ℕ, ◌==◌, if◌then◌else◌, List, [], ◌∷◌, length, Option}
+use Rattle.std.specs.List.{find}
 use Rattle.std.specs.Str.{bytes_eq}
 
 -- the first of the items whose text these bytes are
 abbrev pub named : {X : Type 0} → (X → List ℕ) → List X → List ℕ → Option X
-named text [] bs = None
-named text (x ∷ xs) bs = if bytes_eq (text x) bs then Some x else named text xs bs
+named text xs bytes = find (λ x. bytes_eq (text x) bytes) xs
 
 -- those of the items whose texts have n bytes
 abbrev pub sized : {X : Type 0} → (X → List ℕ) → ℕ → List X → List X

@@ -1,3 +1,5 @@
+//! Why a text has no answer.
+
 use rp_grammar::LexFault;
 use rp_value::Memory;
 use thiserror::Error;
@@ -8,6 +10,7 @@ pub enum LexErr {
     /// The first fault of the text, and the byte at which it stands.
     #[error("the text has no tokens")]
     Fault { at: u32, kind: LexFault },
+    /// Memory ran out. It says nothing of the text.
     #[error("out of memory")]
     Memory,
 }

@@ -2,7 +2,7 @@
 
 ghost use Rattle.std.specs.Prelude.{◌≡◌, ◌↔◌, IsSome, IsTrue, take, drop};
 ghost use Rattle.rp_grammar.specs.Bytes.{is_one_of, reserved, symbols};
-ghost use Rattle.rp_grammar.specs.Spelling.{spelling, mark, words, marks};
+ghost use Rattle.rp_grammar.specs.Spelling.{spelling, mark, words, marks, word_of, symbol_of};
 ghost use Rattle.rp_lexer.specs.Named.{named, sized};
 
 use rp_grammar::{Symbol, Word};
@@ -142,8 +142,8 @@ fn word_of_10(text: &[u8]) -> Option<Word>
     }
 }
 
-fn word_of_length(text: &[u8]) -> Option<Word>
-    ensures { result ≡ named spelling words text.now }
+fn word_by_length(text: &[u8]) -> Option<Word>
+    ensures { result ≡ word_of text.now }
 {
     match text.len() {
         2 => word_of_2(text),
@@ -161,10 +161,11 @@ fn word_of_length(text: &[u8]) -> Option<Word>
 
 /// The reserved word that the text spells, if it spells one.
 pub fn word_of(text: &[u8]) -> Option<Word>
-    ensures word { (x : Word) → (result ≡ Some x) ↔ (text.now ≡ spelling x) }
+    ensures is { result ≡ word_of text.now }
+    ensures spelled { (w : Word) → (result ≡ Some w) ↔ (text.now ≡ spelling w) }
     ensures some { IsSome result ↔ IsTrue (is_one_of reserved text.now) }
 {
-    word_of_length(text)
+    word_by_length(text)
 }
 
 fn symbol_of_1(text: &[u8]) -> Option<Symbol>
@@ -217,8 +218,8 @@ fn symbol_of_3(text: &[u8]) -> Option<Symbol>
     }
 }
 
-fn symbol_of_length(text: &[u8]) -> Option<Symbol>
-    ensures { result ≡ named mark marks text.now }
+fn symbol_by_length(text: &[u8]) -> Option<Symbol>
+    ensures { result ≡ symbol_of text.now }
 {
     match text.len() {
         1 => symbol_of_1(text),
@@ -230,8 +231,9 @@ fn symbol_of_length(text: &[u8]) -> Option<Symbol>
 
 /// The symbol that the text spells, if it spells one.
 pub fn symbol_of(text: &[u8]) -> Option<Symbol>
-    ensures symbol { (x : Symbol) → (result ≡ Some x) ↔ (text.now ≡ mark x) }
+    ensures is { result ≡ symbol_of text.now }
+    ensures spelled { (m : Symbol) → (result ≡ Some m) ↔ (text.now ≡ mark m) }
     ensures some { IsSome result ↔ IsTrue (is_one_of symbols text.now) }
 {
-    symbol_of_length(text)
+    symbol_by_length(text)
 }

@@ -1,4 +1,4 @@
-use super::{LexErr, Token, lex};
+use super::{LexErr, Symbol, Token, Word, lex, symbol_of, word_of};
 use std::alloc::{AllocError, Global};
 use std::process::Abort;
 use std::test::Fail;
@@ -204,4 +204,108 @@ fn each_byte_is_a_text(rt: HostRuntime) -> Result<(), Fail> {
         );
     }
     Ok(())
+}
+
+// Each reserved word, and texts that are none.
+const WORDS: [(&[u8], Option<Word>); 51] = [
+    (b"idtype", Some(Word::IdType)),
+    (b"type", Some(Word::Type)),
+    (b"datatype", Some(Word::Datatype)),
+    (b"crdt", Some(Word::Crdt)),
+    (b"query", Some(Word::Query)),
+    (b"invariant", Some(Word::Invariant)),
+    (b"proc", Some(Word::Proc)),
+    (b"var", Some(Word::Var)),
+    (b"atomic", Some(Word::Atomic)),
+    (b"if", Some(Word::If)),
+    (b"else", Some(Word::Else)),
+    (b"match", Some(Word::Match)),
+    (b"assert", Some(Word::Assert)),
+    (b"return", Some(Word::Return)),
+    (b"new", Some(Word::New)),
+    (b"forall", Some(Word::Forall)),
+    (b"exists", Some(Word::Exists)),
+    (b"true", Some(Word::True)),
+    (b"false", Some(Word::False)),
+    (b"none", Some(Word::None)),
+    (b"some", Some(Word::Some)),
+    (b"call", Some(Word::Call)),
+    (b"invocation", Some(Word::Invocation)),
+    (b"visible", Some(Word::Visible)),
+    (b"before", Some(Word::Before)),
+    (b"same", Some(Word::Same)),
+    (b"op", Some(Word::Op)),
+    (b"origin", Some(Word::Origin)),
+    (b"info", Some(Word::Info)),
+    (b"result", Some(Word::Result)),
+    (b"unreturned", Some(Word::Unreturned)),
+    (b"tx", Some(Word::Tx)),
+    (b"returned", Some(Word::Returned)),
+    (b"Bool", Some(Word::Bool)),
+    (b"Int", Some(Word::Int)),
+    (b"String", Some(Word::String)),
+    (b"Maybe", Some(Word::Maybe)),
+    (b"SetAw", Some(Word::SetAw)),
+    (b"SetRw", Some(Word::SetRw)),
+    (b"Reg", Some(Word::Reg)),
+    (b"MvReg", Some(Word::MvReg)),
+    (b"Counter", Some(Word::Counter)),
+    (b"MapUw", Some(Word::MapUw)),
+    (b"MapDw", Some(Word::MapDw)),
+    (b"requires", Some(Word::Requires)),
+    (b"abort", Some(Word::Abort)),
+    (b"", None),
+    (b"i", None),
+    (b"Before", None),
+    (b"index", None),
+    (b"unreturnable", None),
+];
+
+#[test]
+fn words_are_spelled(rt: HostRuntime) {
+    for (text, want) in &WORDS {
+        assert_eq!(rt; word_of(text), *want, "of {text:?}");
+    }
+}
+
+// Each symbol, and texts that are none.
+const SYMBOLS: [(&[u8], Option<Symbol>); 31] = [
+    (b"{", Some(Symbol::OpenBrace)),
+    (b"}", Some(Symbol::CloseBrace)),
+    (b"(", Some(Symbol::OpenParen)),
+    (b")", Some(Symbol::CloseParen)),
+    (b"[", Some(Symbol::OpenBracket)),
+    (b"]", Some(Symbol::CloseBracket)),
+    (b",", Some(Symbol::Comma)),
+    (b";", Some(Symbol::Semicolon)),
+    (b":", Some(Symbol::Colon)),
+    (b"::", Some(Symbol::DoubleColon)),
+    (b".", Some(Symbol::Dot)),
+    (b"=", Some(Symbol::Assign)),
+    (b"==", Some(Symbol::Equal)),
+    (b"!=", Some(Symbol::NotEqual)),
+    (b"<", Some(Symbol::Less)),
+    (b"<=", Some(Symbol::AtMost)),
+    (b">", Some(Symbol::Greater)),
+    (b">=", Some(Symbol::AtLeast)),
+    (b"==>", Some(Symbol::Implies)),
+    (b"=>", Some(Symbol::Arrow)),
+    (b"&&", Some(Symbol::And)),
+    (b"||", Some(Symbol::Or)),
+    (b"!", Some(Symbol::Not)),
+    (b"+", Some(Symbol::Plus)),
+    (b"-", Some(Symbol::Minus)),
+    (b"|", Some(Symbol::Bar)),
+    (b"", None),
+    (b"&", None),
+    (b"/", None),
+    (b"===", None),
+    (b"==>>", None),
+];
+
+#[test]
+fn symbols_are_spelled(rt: HostRuntime) {
+    for (text, want) in &SYMBOLS {
+        assert_eq!(rt; symbol_of(text), *want, "of {text:?}");
+    }
 }

@@ -13,6 +13,7 @@ use rp_span::Span;
 use rp_value::List;
 use std::alloc::Global;
 
+// Adds the token that stands from `from` up to `to`.
 fn push_token(
     tokens: &mut List<Token>,
     kind: TokenKind,
@@ -59,7 +60,8 @@ fn read_tokens(alloc: Global, bytes: &[u8]) -> Result<List<Token>, LexErr>
     }
 }
 
-/// The tokens of a text, the last of which is its end, or the first fault of the text.
+/// The tokens of a text, the last of which is its end, or the first fault of the text. It reads each byte
+/// at most a few times, and copies none: a token's text is the slice of its span.
 pub fn lex(alloc: Global, bytes: &[u8]) -> Result<List<Token>, LexErr>
     requires { length bytes.now ≤ 262144 }
 

@@ -8,7 +8,7 @@ mod tables;
 mod value;
 
 pub use boxed::Boxed;
-pub use list::{Bytes, List, copy_bytes};
+pub use list::{Bytes, List, copy_bytes, copy_list};
 pub use memory::Memory;
 pub use tables::{AtomType, ConDecl, ConTable, DataDecl, Ty, TypeTable};
 pub use value::{Value, copy_values};

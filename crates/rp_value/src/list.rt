@@ -147,14 +147,21 @@ impl<T: Eq> Eq for List<T> {
     ghost laws = { lists_equiv T.Eq.laws };
 }
 
+/// A list of the same elements.
+pub fn copy_list<T: Copy + Drop>(alloc: Global, items: &[T]) -> Result<List<T>, Memory>
+    ensures { IfOk result (λ copy. copy ≡ items.now) }
+{
+    if items.len() > MOST {
+        return Err(Memory);
+    }
+    Ok(List::from_vec(Vec::from_slice(alloc, items)?))
+}
+
 /// A list of the same bytes.
 pub fn copy_bytes(alloc: Global, bytes: &[u8]) -> Result<Bytes, Memory>
     ensures { IfOk result (λ copy. copy ≡ bytes.now) }
 {
-    if bytes.len() > MOST {
-        return Err(Memory);
-    }
-    Ok(List::from_vec(Vec::from_slice(alloc, bytes)?))
+    copy_list(alloc, bytes)
 }
 
 #[cfg(test)]

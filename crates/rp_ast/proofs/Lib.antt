@@ -1,0 +1,3 @@
+pub mod TypeViews
+pub mod ExprViews
+pub mod StmtViews

@@ -1,0 +1,54 @@
+use crate::crdt::CrdtNode;
+use crate::expr::ExprNode;
+use crate::ident::Ident;
+use crate::stmt::Block;
+use crate::ty::{Param, TypeNode};
+use rp_span::Span;
+use rp_value::List;
+
+/// The tree of a program.
+#[derive(Debug, Drop)]
+pub struct Ast {
+    pub decls: List<Decl>,
+}
+
+/// A declaration.
+#[derive(Debug, Drop)]
+pub struct Decl {
+    pub span: Span,
+    pub what: DeclForm,
+}
+
+#[derive(Debug, Drop)]
+pub enum DeclForm {
+    IdType(Ident),
+    Opaque(Ident),
+    Datatype(Ident, List<ConNode>),
+    Crdt(Ident, CrdtNode),
+    Query(QueryNode),
+    Invariant(Option<Ident>, ExprNode),
+    Proc(ProcNode),
+}
+
+/// A constructor of a datatype, and its fields.
+#[derive(Debug, Drop)]
+pub struct ConNode {
+    pub name: Ident,
+    pub fields: List<Param>,
+}
+
+#[derive(Debug, Drop)]
+pub struct QueryNode {
+    pub name: Ident,
+    pub params: List<Param>,
+    pub result: TypeNode,
+    pub body: ExprNode,
+}
+
+#[derive(Debug, Drop)]
+pub struct ProcNode {
+    pub name: Ident,
+    pub params: List<Param>,
+    pub result: Option<TypeNode>,
+    pub body: Block,
+}

@@ -1,0 +1,9 @@
+use rp_span::Span;
+use rp_value::Bytes;
+
+/// A name, and where it stands.
+#[derive(Debug, Drop)]
+pub struct Ident {
+    pub text: Bytes,
+    pub span: Span,
+}

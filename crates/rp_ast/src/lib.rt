@@ -1,0 +1,17 @@
+//! The trees of programs, and their printed form.
+#![tactic(auto)]
+
+mod crdt;
+mod decl;
+mod expr;
+mod ident;
+mod stmt;
+mod ty;
+
+pub use crdt::{CrdtForm, CrdtNode, FieldNode};
+pub use decl::{Ast, ConNode, Decl, DeclForm, ProcNode, QueryNode};
+pub use expr::{AccessNode, AccessStep, ExprArm, ExprForm, ExprNode, PatternNode};
+pub use ident::Ident;
+pub use rp_grammar::{CallWord, CompareOp};
+pub use stmt::{Block, BlockArm, ElseNode, StmtForm, StmtNode};
+pub use ty::{Param, TypeForm, TypeNode};

@@ -1,0 +1,87 @@
+-- What a program over truth values has.
+use Rattle.std.proofs.Common.{◌≡◌, ℕ, ◌≤◌, Bool, true, false, ◌&&◌, ◌==◌, nat_le, is_none, IsTrue, List, [], ◌∷◌, Some, zero, suc, length, map, slice_get, arith}
+use Rattle.std.specs.List.{list_all}
+use Rattle.rp_lang.specs.declared.proc.ProcDecl.{ProcDecl}
+use Rattle.rp_lang.specs.declared.program.Program.{Program}
+use Rattle.rp_lang.specs.FirstForm.{is_bool, has_bool_slots, has_few_statements, are_checking, is_over_truth_values, are_distinct, names, are_over_truth_values, IsFirstForm}
+use Rattle.rp_lang.specs.Programs.{Proc}
+use Rattle.rp_lang.specs.Sizes.{sts_count}
+use Rattle.rp_lang.specs.Views.{root_view, inv_view, proc_view}
+use Rattle.rp_lang.specs.ProgramView.{program_view}
+
+pub first_form : (p : Program) → IsFirstForm (program_view p)
+first_form p = record {
+  parts = λ i. record {
+    types = p.only_bool i;
+    cons = p.only_truth_values i;
+    roots = map root_view (p.no_roots i);
+    ops = p.only_tx i;
+    queries = p.no_queries i;
+    invs = map inv_view (p.no_invs i);
+    procs = map proc_view p.procs;
+  };
+  procs = p.over_truth_values;
+}
+
+both : (a b : Bool) → IsTrue (a && b) → IsTrue a × IsTrue b
+both true true t = (t, t)
+both true false t = grind (arith, t)
+both false b t = grind (arith, t)
+
+within_test : (m n : ℕ) → IsTrue (nat_le m n) → m ≤ n
+within_test m n t = grind arith
+
+equal_test : (m n : ℕ) → IsTrue (m == n) → m ≡ n
+equal_test m n t = grind arith
+
+all_at : (test : Proc → Bool) (procs : List ProcDecl) (k : ℕ) (p : ProcDecl) → IsTrue (list_all test (map proc_view procs)) → slice_get procs k ≡ Some p → IsTrue (test (proc_view p))
+all_at test [] k p all at = grind arith
+all_at test (q ∷ procs) zero p all at = grind arith
+all_at test (q ∷ procs) (suc k) p all at = grind (arith, all_at test procs k p)
+
+-- each of its procedures is over truth values
+pub proc_over_truth_values : (procs : List ProcDecl) (k : ℕ) (p : ProcDecl) → IsTrue (are_over_truth_values (map proc_view procs)) → slice_get procs k ≡ Some p → IsTrue (is_over_truth_values (proc_view p))
+proc_over_truth_values procs k p fits at =
+    let ps : List Proc = map proc_view procs in
+    let most = both (nat_le (length ps) 64 && list_all is_over_truth_values ps) (are_distinct (names ps)) fits in
+    all_at is_over_truth_values procs k p (both (nat_le (length ps) 64) (list_all is_over_truth_values ps) most.0).1 at
+
+pub few_procs : (procs : List Proc) → IsTrue (are_over_truth_values procs) → length procs ≤ 64
+few_procs procs fits =
+    let most = both (nat_le (length procs) 64 && list_all is_over_truth_values procs) (are_distinct (names procs)) fits in
+    within_test (length procs) 64 (both (nat_le (length procs) 64) (list_all is_over_truth_values procs) most.0).0
+
+-- the parts of the test of a procedure
+pub record IsOverTruthValues (p : Proc) : Type 0 where
+  pub few_params : length p.params ≤ 8
+  pub bool_params : IsTrue (list_all is_bool p.params)
+  pub no_result : IsTrue (is_none p.result)
+  pub as_many_slots : length p.slots ≡ length p.params
+  pub bool_slots : IsTrue (list_all is_bool p.slots)
+  pub few_statements : sts_count p.body ≤ 200
+  pub checking : IsTrue (are_checking (length p.params) p.body)
+
+pub proc_facts : (p : Proc) → IsTrue (is_over_truth_values p) → IsOverTruthValues p
+proc_facts p fits =
+    let few : Bool = nat_le (length p.params) 8 in
+    let params : Bool = list_all is_bool p.params in
+    let none : Bool = is_none p.result in
+    let same : Bool = length p.slots == length p.params in
+    let slots : Bool = list_all is_bool p.slots in
+    let whole = both (has_bool_slots p && has_few_statements p.body) (are_checking (length p.params) p.body) fits in
+    let head = both (has_bool_slots p) (has_few_statements p.body) whole.0 in
+    let to_slots = both (few && params && none && same) slots head.0 in
+    let to_same = both (few && params && none) same to_slots.0 in
+    let to_none = both (few && params) none to_same.0 in
+    let to_params = both few params to_none.0 in
+    record {
+      few_params = within_test (length p.params) 8 to_params.0;
+      bool_params = to_params.1;
+      no_result = to_none.1;
+      as_many_slots = equal_test (length p.slots) (length p.params) to_same.1;
+      bool_slots = to_slots.1;
+      few_statements = within_test (sts_count p.body) 200 head.1;
+      checking = whole.1;
+    }
+
+pub ruleset first_form_facts = (proc_over_truth_values, few_procs, proc_facts)
