@@ -1,16 +1,18 @@
 -- Steps that the answers share: lists that grow, and what one nesting deeper is.
 use Rattle.std.proofs.Common.{ℕ, suc, ◌+◌, ◌≡◌, List, [], ◌∷◌, ◌++◌, map, ap, sym, ◌∙◌, refl, subst, add-one, get_or, slice_get, Some, length, ◌<◌, zero, arith}
 use Rattle.std.proofs.lemmas.List.{map-append}
+use Rattle.rp_span.specs.declared.Span.{Span}
 use Rattle.rp_grammar.specs.Terminals.{Tok, Placed}
 use Rattle.rp_grammar.specs.Parts.{Part}
-use Rattle.rp_grammar.specs.Trees.{ExprTree, StmtTree}
+use Rattle.rp_grammar.specs.Trees.{ExprTree, StmtTree, BlockTree, ElseTree}
 use Rattle.rp_grammar.specs.Exprs.{Expr, Notx}
 use Rattle.rp_grammar.specs.Stmts.{Stmts, IfStmt}
 use Rattle.rp_types.specs.Resolution.{Name}
 use Rattle.rp_lang.specs.Formulas.{Fo}
 use Rattle.rp_lang.specs.Stmts.{St}
-use Rattle.rp_first.specs.Reads.{Reads, IsFormula, AreFormulas, IsStmt, AreStmts}
-use Rattle.rp_first.proofs.Chains.{Gathers, first_gathers}
+use Rattle.rp_first.specs.Reads.{Reads, IsFormula, IsStmt, IsBlock, IsElse}
+use Rattle.rp_first.proofs.Chains.{Gathers}
+use Rattle.rp_first.proofs.StatementLemmas.{Heads}
 
 module _ {X Y : Type 0} (f : X → Y) where
   -- one more at the end
@@ -33,6 +35,22 @@ as_meant {Phrase = Phrase} {scope = scope} {ts = ts} {us = us} e reads = subst (
 pub as_gathered : {Operand : List Placed → Part ExprTree → List Placed → Type 0} {More : List Placed → List (Part ExprTree) → List Placed → Type 0} {scope : List Name} {fs gs : List Fo} {ts us : List Tok} → fs ≡ gs
     → Gathers Operand More scope gs ts us → Gathers Operand More scope fs ts us
 as_gathered {Operand = Operand} {More = More} {scope = scope} {ts = ts} {us = us} e gathers = subst (λ v. Gathers Operand More scope v ts us) (sym e) gathers
+
+pub as_heads : {d : ℕ} {scope : List Name} {xs ys : List St} {ts us : List Tok} → xs ≡ ys → Heads d scope ys ts us → Heads d scope xs ts us
+as_heads {d = d} {scope = scope} {ts = ts} {us = us} e heads = subst (λ v. Heads d scope v ts us) (sym e) heads
+
+pub as_stmt : {Phrase : List Placed → StmtTree → List Placed → Type 0} {scope : List Name} {s z : Span} {x y : St} {ts us : List Tok} → s ≡ z → x ≡ y
+    → Reads Phrase (IsStmt scope z y) ts us → Reads Phrase (IsStmt scope s x) ts us
+as_stmt {Phrase = Phrase} {scope = scope} {s = s} {y = y} {ts = ts} {us = us} place e reads =
+    subst (λ v. Reads Phrase (IsStmt scope s v) ts us) (sym e) (subst (λ v. Reads Phrase (IsStmt scope v y) ts us) (sym place) reads)
+
+pub as_block : {Phrase : List Placed → BlockTree → List Placed → Type 0} {scope : List Name} {s z : Span} {xs : List St} {ts us : List Tok} → s ≡ z
+    → Reads Phrase (IsBlock scope z xs) ts us → Reads Phrase (IsBlock scope s xs) ts us
+as_block {Phrase = Phrase} {scope = scope} {xs = xs} {ts = ts} {us = us} place reads = subst (λ v. Reads Phrase (IsBlock scope v xs) ts us) (sym place) reads
+
+pub as_else : {Phrase : List Placed → ElseTree → List Placed → Type 0} {scope : List Name} {s z : Span} {xs ys : List St} {ts us : List Tok} → xs ≡ ys
+    → Reads Phrase (IsElse scope s z ys) ts us → Reads Phrase (IsElse scope s z xs) ts us
+as_else {Phrase = Phrase} {scope = scope} {s = s} {z = z} {ts = ts} {us = us} e reads = subst (λ v. Reads Phrase (IsElse scope s z v) ts us) (sym e) reads
 
 pub deeper_expr : (d : ℕ) {Means : Part ExprTree → Type 0} {ts us : List Tok} → Reads (Expr (d + 1)) Means ts us → Reads (Expr (suc d)) Means ts us
 deeper_expr d {Means = Means} {ts = ts} {us = us} reads = subst (λ v. Reads (Expr v) Means ts us) (add-one d) reads

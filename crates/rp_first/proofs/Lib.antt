@@ -6,3 +6,4 @@ pub mod StatementLemmas
 pub mod DeclarationLemmas
 pub mod NameLemmas
 pub mod Gathered
+pub mod TextLemmas

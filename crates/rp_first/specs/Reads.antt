@@ -1,5 +1,5 @@
 -- What it is for some tokens to spell a phrase, whatever follows, and what the phrases of the first form mean.
-use Rattle.std.specs.Prelude.{ℕ, suc, ◌≡◌, IsTrue, List, [], ◌∷◌, map, length, replicate}
+use Rattle.std.specs.Prelude.{ℕ, suc, ◌-◌, ◌≡◌, None, IsTrue, List, [], ◌∷◌, map, length, replicate}
 use Rattle.std.specs.List.{list_all}
 use Rattle.rp_span.specs.declared.Span.{Span}
 use Rattle.rp_value.specs.declared.tables.Ty.{Ty}
@@ -99,3 +99,17 @@ pub record SpellsProgram (others : List Name) (ps : List Proc) (ts : List Tok) :
   pub phrase : Program placed tree
   pub first : IsTrue (is_first_tree tree)
   pub meant : ProcsOf others tree ps
+
+-- the last byte of a place
+abbrev pub last_byte : Span → Span
+last_byte s = record { from = s.to - 1; to = s.to }
+
+-- the procedure of this name and place, with this many parameters that are each a `Bool`
+pub record MakesProc (name : Name) (place : Span) (count : ℕ) (body : Sts) (p : Proc) : Type 0 where
+  pub named : p.name ≡ name
+  pub stands : p.at ≡ place
+  pub ends : p.end ≡ last_byte place
+  pub params : p.params ≡ replicate count (Datatype 0)
+  pub slots : p.slots ≡ replicate count (Datatype 0)
+  pub no_result : p.result ≡ None
+  pub runs : p.body ≡ body

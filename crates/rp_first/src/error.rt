@@ -1,5 +1,6 @@
 use rp_lexer::LexErr;
 use rp_value::Memory;
+use std::alloc::{AllocError, AllocFailed};
 use thiserror::Error;
 
 /// Why a text was not read.
@@ -14,6 +15,18 @@ pub enum ReadError {
 
 impl From<Memory> for ReadError {
     fn from(_error: Memory) -> ReadError {
+        ReadError::Memory
+    }
+}
+
+impl From<AllocError> for ReadError {
+    fn from(_error: AllocError) -> ReadError {
+        ReadError::Memory
+    }
+}
+
+impl<T: Drop> From<AllocFailed<T>> for ReadError {
+    fn from(_error: AllocFailed<T>) -> ReadError {
         ReadError::Memory
     }
 }

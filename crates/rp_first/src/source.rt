@@ -104,12 +104,19 @@ impl<'a> Source<'a> {
     pub(crate) fn bytes(&self, span: Span) -> Result<&'a [u8], ReadError>
         ensures { IfOk result (λ bytes. bytes.now ≡ slice self.now.text.now span) }
     {
-        let from = span.from as usize;
-        let to = span.to as usize;
-        if from <= to && to <= self.text.len() {
-            Ok(&self.text[from..to])
-        } else {
-            Err(ReadError::NotYet)
-        }
+        bytes_at(self.text, span)
+    }
+}
+
+/// The bytes of a place of the text.
+pub(crate) fn bytes_at(text: &[u8], span: Span) -> Result<&[u8], ReadError>
+    ensures { IfOk result (λ bytes. bytes.now ≡ slice text.now span) }
+{
+    let from = span.from as usize;
+    let to = span.to as usize;
+    if from <= to && to <= text.len() {
+        Ok(&text[from..to])
+    } else {
+        Err(ReadError::NotYet)
     }
 }

@@ -1,0 +1,59 @@
+-- Tokens of whole texts.
+use Rattle.std.proofs.Common.{ℕ, suc, ◌+◌, ◌<◌, ◌≤◌, ◌≡◌, Bool, true, false, ◌&&◌, nat_le, IsTrue, List, [], ◌∷◌, ◌++◌, length, get_or, take, drop, map, refl, sym, ap, ◌∙◌, subst, arith}
+use Rattle.std.proofs.lemmas.List.{map-append}
+use Rattle.std.specs.List.{list_all}
+use Rattle.rp_span.specs.declared.Span.{Span}
+use Rattle.rp_grammar.specs.declared.Token.{Token}
+use Rattle.rp_grammar.specs.Lexed.{Lexed}
+use Rattle.rp_grammar.specs.Terminals.{Terminal, Tok, at, end}
+use Rattle.rp_grammar.specs.Toks.{ToksOf, none, more, IsTerminal, slice}
+use Rattle.rp_types.specs.Resolution.{names}
+use Rattle.rp_lang.specs.Programs.{Proc, Prog}
+use Rattle.rp_lang.specs.FirstForm.{are_over_truth_values, over_truth_values, is_over_truth_values, are_distinct}
+use Rattle.rp_first.specs.declared.mark.Mark.{Mark}
+use Rattle.rp_first.specs.Marks.{terminal_of, tok_of, toks_from, IsNext}
+use Rattle.rp_first.specs.Reads.{SpellsProgram}
+use Rattle.rp_first.specs.ReadOf.{IsReadOf}
+use Rattle.rp_first.proofs.NameLemmas.{distinct_names}
+
+snoc : {text : List ℕ} {t : Token} {k : Terminal} {ts : List Token} {us : List Tok} → ToksOf text ts us → IsTerminal (slice text t.span) t.kind k → ToksOf text (ts ++ t ∷ []) (us ++ at k t.span ∷ [])
+snoc none h = more h none
+snoc (more g gs) h = more g (snoc gs h)
+
+-- the tokens of the marks, so far
+pub toks_pushed : (text : List ℕ) (ts us : List Token) (t : Token) (marks more_marks : List Mark) (m : Mark) → us ≡ ts ++ t ∷ [] → more_marks ≡ marks ++ m ∷ [] → m.span ≡ t.span
+    → IsTerminal (slice text t.span) t.kind (terminal_of (slice text t.span) m.kind) → ToksOf text ts (map (tok_of text) marks) → ToksOf text us (map (tok_of text) more_marks)
+toks_pushed text ts us t marks more_marks m e g s h so_far =
+    let last : tok_of text m ≡ at (terminal_of (slice text t.span) m.kind) t.span = ap (λ v. at (terminal_of (slice text v) m.kind) v) s in
+    let longer : ToksOf text (ts ++ t ∷ []) (map (tok_of text) marks ++ tok_of text m ∷ []) = rw last (snoc so_far h) in
+    let marked : map (tok_of text) more_marks ≡ map (tok_of text) marks ++ tok_of text m ∷ [] = ap (map (tok_of text)) g ∙ map-append (tok_of text) marks (m ∷ []) in
+    rw (e, marked) longer
+
+pub toks_all : (text : List ℕ) (marks : List Mark) → toks_from text marks 0 ≡ map (tok_of text) marks
+unfolding toks_from
+toks_all text marks = refl
+
+no_more : (marks : List Mark) (n : ℕ) → n ≡ length marks → drop n marks ≡ []
+no_more marks n e = search rules
+
+pub at_end : (text : List ℕ) (marks : List Mark) (i : ℕ) (s : Span) → IsNext end s text marks i → i + 1 ≡ length marks → toks_from text marks i ≡ at end s ∷ []
+unfolding toks_from
+at_end text marks i s next e = next ∙ ap (λ q. at end s ∷ map (tok_of text) q) (no_more marks (i + 1) e)
+
+last_part : (a b c : Bool) → IsTrue (a && b && c) → IsTrue c
+last_part true true c h = h
+last_part true false c h = absurd (cc)
+last_part false b c h = absurd (cc)
+
+-- what is read is the program of the text
+pub read_of : (bytes : List ℕ) (tokens : List Token) (toks : List Tok) (procs : List Proc) (prog : Prog) → Lexed 0 bytes tokens → ToksOf bytes tokens toks → SpellsProgram (names procs) procs toks
+    → IsTrue (are_over_truth_values procs) → prog ≡ over_truth_values procs → IsReadOf bytes prog
+read_of bytes tokens toks procs prog lexed toks_of spelt over is =
+    let distinct : IsTrue (are_distinct (names procs)) = last_part (nat_le (length procs) 64) (list_all is_over_truth_values procs) (are_distinct (names procs)) over in
+    rw is (record {
+      tree = spelt.tree;
+      text = (toks, (tokens, lexed, toks_of), (spelt.placed, spelt.plainly, spelt.phrase, spelt.within));
+      form = spelt.first;
+      procs = spelt.meant;
+      distinct = distinct_names (names procs) distinct;
+    })
