@@ -1,6 +1,6 @@
 -- Tokens of whole texts.
 use Rattle.std.proofs.Common.{ℕ, suc, ◌+◌, ◌<◌, ◌≤◌, ◌≡◌, Bool, true, false, ◌&&◌, nat_le, IsTrue, List, [], ◌∷◌, ◌++◌, length, get_or, take, drop, map, refl, sym, ap, ◌∙◌, subst, arith}
-use Rattle.std.proofs.lemmas.List.{map-append}
+use Rattle.std.proofs.lemmas.List.{map-append, take_all, drop_all, take_more}
 use Rattle.std.specs.List.{list_all}
 use Rattle.rp_span.specs.declared.Span.{Span}
 use Rattle.rp_grammar.specs.declared.Token.{Token}
@@ -10,22 +10,24 @@ use Rattle.rp_grammar.specs.Toks.{ToksOf, none, more, IsTerminal, slice}
 use Rattle.rp_types.specs.Resolution.{names}
 use Rattle.rp_lang.specs.Programs.{Proc, Prog}
 use Rattle.rp_lang.specs.FirstForm.{are_over_truth_values, over_truth_values, is_over_truth_values, are_distinct}
+use Rattle.rp_first.specs.declared.mark.Kind.{Kind}
+use Rattle.rp_first.specs.declared.mark.Kind.TheVariants.{End}
 use Rattle.rp_first.specs.declared.mark.Mark.{Mark}
 use Rattle.rp_first.specs.Marks.{terminal_of, tok_of, toks_from, IsNext}
 use Rattle.rp_first.specs.Reads.{SpellsProgram}
 use Rattle.rp_first.specs.ReadOf.{IsReadOf}
 use Rattle.rp_first.proofs.NameLemmas.{distinct_names}
 
-snoc : {text : List ℕ} {t : Token} {k : Terminal} {ts : List Token} {us : List Tok} → ToksOf text ts us → IsTerminal (slice text t.span) t.kind k → ToksOf text (ts ++ t ∷ []) (us ++ at k t.span ∷ [])
-snoc none h = more h none
-snoc (more g gs) h = more g (snoc gs h)
+snoc : {text : List ℕ} (t : Token) (k : Terminal) {ts : List Token} {us : List Tok} → ToksOf text ts us → IsTerminal (slice text t.span) t.kind k → ToksOf text (ts ++ t ∷ []) (us ++ at k t.span ∷ [])
+snoc t k none h = more h none
+snoc t k (more g gs) h = more g (snoc t k gs h)
 
 -- the tokens of the marks, so far
 pub toks_pushed : (text : List ℕ) (ts us : List Token) (t : Token) (marks more_marks : List Mark) (m : Mark) → us ≡ ts ++ t ∷ [] → more_marks ≡ marks ++ m ∷ [] → m.span ≡ t.span
     → IsTerminal (slice text t.span) t.kind (terminal_of (slice text t.span) m.kind) → ToksOf text ts (map (tok_of text) marks) → ToksOf text us (map (tok_of text) more_marks)
 toks_pushed text ts us t marks more_marks m e g s h so_far =
     let last : tok_of text m ≡ at (terminal_of (slice text t.span) m.kind) t.span = ap (λ v. at (terminal_of (slice text v) m.kind) v) s in
-    let longer : ToksOf text (ts ++ t ∷ []) (map (tok_of text) marks ++ tok_of text m ∷ []) = rw last (snoc so_far h) in
+    let longer : ToksOf text (ts ++ t ∷ []) (map (tok_of text) marks ++ tok_of text m ∷ []) = rw last (snoc t (terminal_of (slice text t.span) m.kind) so_far h) in
     let marked : map (tok_of text) more_marks ≡ map (tok_of text) marks ++ tok_of text m ∷ [] = ap (map (tok_of text)) g ∙ map-append (tok_of text) marks (m ∷ []) in
     rw (e, marked) longer
 
@@ -33,12 +35,21 @@ pub toks_all : (text : List ℕ) (marks : List Mark) → toks_from text marks 0 
 unfolding toks_from
 toks_all text marks = refl
 
+pub toks_none : (text : List ℕ) (ts : List Token) (marks : List Mark) → ts ≡ [] → marks ≡ [] → ToksOf text ts (map (tok_of text) marks)
+toks_none text ts marks e g = rw (e, g) none
+
+pub toks_done : (text : List ℕ) (ts : List Token) (marks : List Mark) (i : ℕ) → length ts ≤ i → ToksOf text (take i ts) (map (tok_of text) marks) → ToksOf text ts (toks_from text marks 0)
+toks_done text ts marks i h so_far = rw toks_all (rw (take_all i ts h) at so_far)
+
 no_more : (marks : List Mark) (n : ℕ) → n ≡ length marks → drop n marks ≡ []
-no_more marks n e = search rules
+no_more marks n e = drop_all n marks (omega arith)
 
 pub at_end : (text : List ℕ) (marks : List Mark) (i : ℕ) (s : Span) → IsNext end s text marks i → i + 1 ≡ length marks → toks_from text marks i ≡ at end s ∷ []
 unfolding toks_from
 at_end text marks i s next e = next ∙ ap (λ q. at end s ∷ map (tok_of text) q) (no_more marks (i + 1) e)
+
+pub end_at : (text : List ℕ) (marks : List Mark) (i : ℕ) (s : Span) (bytes : List ℕ) (kind : Kind) → kind ≡ End → IsNext (terminal_of bytes kind) s text marks i → i + 1 ≡ length marks → toks_from text marks i ≡ at end s ∷ []
+end_at text marks i s bytes kind is next e = at_end text marks i s (rw is at next) e
 
 last_part : (a b c : Bool) → IsTrue (a && b && c) → IsTrue c
 last_part true true c h = h
