@@ -7,16 +7,19 @@ use Rattle.rp_grammar.specs.declared.Token.{Token}
 use Rattle.rp_grammar.specs.Lexed.{Lexed}
 use Rattle.rp_grammar.specs.Terminals.{Terminal, Tok, at, end}
 use Rattle.rp_grammar.specs.Toks.{ToksOf, none, more, IsTerminal, slice}
-use Rattle.rp_types.specs.Resolution.{names}
+use Rattle.rp_types.specs.Resolution.{AreApart, names}
+use Rattle.rp_lang.specs.declared.proc.ProcDecl.{ProcDecl}
 use Rattle.rp_lang.specs.Programs.{Proc, Prog}
+use Rattle.rp_lang.specs.Views.{proc_view}
 use Rattle.rp_lang.specs.FirstForm.{are_over_truth_values, over_truth_values, is_over_truth_values, are_distinct}
 use Rattle.rp_first.specs.declared.mark.Kind.{Kind}
 use Rattle.rp_first.specs.declared.mark.Kind.TheVariants.{End}
 use Rattle.rp_first.specs.declared.mark.Mark.{Mark}
-use Rattle.rp_first.specs.Marks.{terminal_of, tok_of, toks_from, IsNext}
+use Rattle.rp_first.specs.Marks.{terminal_of, tok_of, toks_from, IsNext, names_at}
 use Rattle.rp_first.specs.Reads.{SpellsProgram}
 use Rattle.rp_first.specs.ReadOf.{IsReadOf}
 use Rattle.rp_first.proofs.NameLemmas.{distinct_names}
+use Rattle.rp_first.proofs.DeclarationLemmas.{Starts, program_ends}
 
 snoc : {text : List ℕ} (t : Token) (k : Terminal) {ts : List Token} {us : List Tok} → ToksOf text ts us → IsTerminal (slice text t.span) t.kind k → ToksOf text (ts ++ t ∷ []) (us ++ at k t.span ∷ [])
 snoc t k none h = more h none
@@ -68,3 +71,20 @@ read_of bytes tokens toks procs prog lexed toks_of spelt over is =
       procs = spelt.meant;
       distinct = distinct_names (names procs) distinct;
     })
+
+-- ---- whole texts, at the values that the code has
+
+pub names_extended : (text : List ℕ) (new old other more : List Span) → new ≡ old ++ other → other ≡ more → names_at text new ≡ names_at text old ++ names_at text more
+names_extended text new old other more e g = ap (names_at text) (e ∙ ap (λ xs. old ++ xs) g) ∙ map-append (slice text) old more
+
+pub program_whole : (text : List ℕ) (scopes places : List Span) (procs seen : List ProcDecl) {s : Span} {ts us : List Tok} → places ≡ scopes → seen ≡ procs
+    → Starts (names_at text scopes) (map proc_view procs) ts us → us ≡ at end s ∷ [] → AreApart (names_at text places) (names (map proc_view seen))
+    → SpellsProgram (names (map proc_view procs)) (map proc_view procs) ts
+program_whole text scopes places procs seen e g so_far ends apart =
+    let apart_here : AreApart (names_at text scopes) (names (map proc_view seen)) = subst (λ v. AreApart (names_at text v) (names (map proc_view seen))) e apart in
+    program_ends (names (map proc_view procs)) so_far ends (subst (λ v. AreApart (names_at text scopes) (names (map proc_view v))) g apart_here)
+
+pub read_whole : (bytes : List ℕ) (tokens seen : List Token) (marks read : List Mark) (procs : List Proc) (prog : Prog) → seen ≡ tokens → read ≡ marks → Lexed 0 bytes tokens → ToksOf bytes seen (toks_from bytes marks 0)
+    → SpellsProgram (names procs) procs (toks_from bytes read 0) → IsTrue (are_over_truth_values procs) → prog ≡ over_truth_values procs → IsReadOf bytes prog
+read_whole bytes tokens seen marks read procs prog e g lexed toks_of spelt over is =
+    read_of bytes tokens (toks_from bytes marks 0) procs prog lexed (subst (λ v. ToksOf bytes v (toks_from bytes marks 0)) e toks_of) (subst (λ v. SpellsProgram (names procs) procs (toks_from bytes v 0)) g spelt) over is
