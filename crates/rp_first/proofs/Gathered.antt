@@ -3,16 +3,20 @@ use Rattle.std.proofs.Common.{ℕ, suc, ◌+◌, ◌≡◌, List, [], ◌∷◌,
 use Rattle.std.proofs.lemmas.List.{map-append}
 use Rattle.rp_span.specs.declared.Span.{Span}
 use Rattle.rp_grammar.specs.Terminals.{Tok, Placed}
+use Rattle.rp_grammar.specs.Toks.{slice}
+use Rattle.rp_first.specs.Marks.{names_at}
 use Rattle.rp_grammar.specs.Parts.{Part}
-use Rattle.rp_grammar.specs.Trees.{ExprTree, StmtTree, BlockTree, ElseTree}
+use Rattle.rp_grammar.specs.Trees.{ExprTree, StmtTree, BlockTree, ElseTree, ParamTree}
 use Rattle.rp_grammar.specs.Exprs.{Expr, Notx}
 use Rattle.rp_grammar.specs.Stmts.{Stmts, IfStmt}
 use Rattle.rp_types.specs.Resolution.{Name}
 use Rattle.rp_lang.specs.Formulas.{Fo}
 use Rattle.rp_lang.specs.Stmts.{St}
-use Rattle.rp_first.specs.Reads.{Reads, IsFormula, IsStmt, IsBlock, IsElse}
+use Rattle.rp_lang.specs.Programs.{Proc}
+use Rattle.rp_first.specs.Reads.{Reads, IsFormula, IsStmt, IsBlock, IsElse, AreParams}
 use Rattle.rp_first.proofs.Chains.{Gathers}
 use Rattle.rp_first.proofs.StatementLemmas.{Heads}
+use Rattle.rp_first.proofs.DeclarationLemmas.{Precedes, Starts}
 
 module _ {X Y : Type 0} (f : X → Y) where
   -- one more at the end
@@ -63,3 +67,17 @@ deeper_stmts d {Means = Means} {ts = ts} {us = us} reads = subst (λ v. Reads (S
 
 pub deeper_if : (d : ℕ) {Means : StmtTree → Type 0} {ts us : List Tok} → Reads (IfStmt (d + 1)) Means ts us → Reads (IfStmt (suc d)) Means ts us
 deeper_if d {Means = Means} {ts = ts} {us = us} reads = subst (λ v. Reads (IfStmt v) Means ts us) (add-one d) reads
+
+-- the variable of a name
+pub found_at : (text : List ℕ) (scope : List Span) (k j : ℕ) (d name : Span) (a b : List ℕ) → k < length scope → j ≡ k → a ≡ slice text (get_or scope k d) → b ≡ slice text name → a ≡ b
+    → slice_get (names_at text scope) j ≡ Some (slice text name)
+found_at text scope k j d name a b h e at_k at_name same = rw e (map_at (slice text) scope k d h ∙ ap Some (sym at_k ∙ same ∙ at_name))
+
+pub as_params : {Phrase : List Placed → List ParamTree → List Placed → Type 0} {ns ms : List Name} {ts us : List Tok} → ns ≡ ms → Reads Phrase (AreParams ms) ts us → Reads Phrase (AreParams ns) ts us
+as_params {Phrase = Phrase} {ts = ts} {us = us} e reads = subst (λ v. Reads Phrase (AreParams v) ts us) (sym e) reads
+
+pub as_precedes : {ns ms : List Name} {ts us : List Tok} → ns ≡ ms → Precedes ms ts us → Precedes ns ts us
+as_precedes {ts = ts} {us = us} e so_far = subst (λ v. Precedes v ts us) (sym e) so_far
+
+pub as_starts : {ns ms : List Name} {ps qs : List Proc} {ts us : List Tok} → ns ≡ ms → ps ≡ qs → Starts ms qs ts us → Starts ns ps ts us
+as_starts {ns = ns} {qs = qs} {ts = ts} {us = us} e g so_far = subst (λ v. Starts ns v ts us) (sym g) (subst (λ v. Starts v qs ts us) (sym e) so_far)

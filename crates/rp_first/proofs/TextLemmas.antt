@@ -1,31 +1,36 @@
 -- Tokens of whole texts.
 use Rattle.std.proofs.Common.{ℕ, suc, ◌+◌, ◌<◌, ◌≤◌, ◌≡◌, Bool, true, false, ◌&&◌, nat_le, IsTrue, List, [], ◌∷◌, ◌++◌, length, get_or, take, drop, map, refl, sym, ap, ◌∙◌, subst, arith}
-use Rattle.std.proofs.lemmas.List.{map-append}
+use Rattle.std.proofs.lemmas.List.{map-append, take_all, drop_all, take_more}
 use Rattle.std.specs.List.{list_all}
 use Rattle.rp_span.specs.declared.Span.{Span}
 use Rattle.rp_grammar.specs.declared.Token.{Token}
 use Rattle.rp_grammar.specs.Lexed.{Lexed}
 use Rattle.rp_grammar.specs.Terminals.{Terminal, Tok, at, end}
 use Rattle.rp_grammar.specs.Toks.{ToksOf, none, more, IsTerminal, slice}
-use Rattle.rp_types.specs.Resolution.{names}
+use Rattle.rp_types.specs.Resolution.{AreApart, names}
+use Rattle.rp_lang.specs.declared.proc.ProcDecl.{ProcDecl}
 use Rattle.rp_lang.specs.Programs.{Proc, Prog}
+use Rattle.rp_lang.specs.Views.{proc_view}
 use Rattle.rp_lang.specs.FirstForm.{are_over_truth_values, over_truth_values, is_over_truth_values, are_distinct}
+use Rattle.rp_first.specs.declared.mark.Kind.{Kind}
+use Rattle.rp_first.specs.declared.mark.Kind.TheVariants.{End}
 use Rattle.rp_first.specs.declared.mark.Mark.{Mark}
-use Rattle.rp_first.specs.Marks.{terminal_of, tok_of, toks_from, IsNext}
+use Rattle.rp_first.specs.Marks.{terminal_of, tok_of, toks_from, IsNext, names_at}
 use Rattle.rp_first.specs.Reads.{SpellsProgram}
 use Rattle.rp_first.specs.ReadOf.{IsReadOf}
 use Rattle.rp_first.proofs.NameLemmas.{distinct_names}
+use Rattle.rp_first.proofs.DeclarationLemmas.{Starts, program_ends}
 
-snoc : {text : List ℕ} {t : Token} {k : Terminal} {ts : List Token} {us : List Tok} → ToksOf text ts us → IsTerminal (slice text t.span) t.kind k → ToksOf text (ts ++ t ∷ []) (us ++ at k t.span ∷ [])
-snoc none h = more h none
-snoc (more g gs) h = more g (snoc gs h)
+snoc : {text : List ℕ} (t : Token) (k : Terminal) {ts : List Token} {us : List Tok} → ToksOf text ts us → IsTerminal (slice text t.span) t.kind k → ToksOf text (ts ++ t ∷ []) (us ++ at k t.span ∷ [])
+snoc t k none h = more h none
+snoc t k (more g gs) h = more g (snoc t k gs h)
 
 -- the tokens of the marks, so far
 pub toks_pushed : (text : List ℕ) (ts us : List Token) (t : Token) (marks more_marks : List Mark) (m : Mark) → us ≡ ts ++ t ∷ [] → more_marks ≡ marks ++ m ∷ [] → m.span ≡ t.span
     → IsTerminal (slice text t.span) t.kind (terminal_of (slice text t.span) m.kind) → ToksOf text ts (map (tok_of text) marks) → ToksOf text us (map (tok_of text) more_marks)
 toks_pushed text ts us t marks more_marks m e g s h so_far =
     let last : tok_of text m ≡ at (terminal_of (slice text t.span) m.kind) t.span = ap (λ v. at (terminal_of (slice text v) m.kind) v) s in
-    let longer : ToksOf text (ts ++ t ∷ []) (map (tok_of text) marks ++ tok_of text m ∷ []) = rw last (snoc so_far h) in
+    let longer : ToksOf text (ts ++ t ∷ []) (map (tok_of text) marks ++ tok_of text m ∷ []) = rw last (snoc t (terminal_of (slice text t.span) m.kind) so_far h) in
     let marked : map (tok_of text) more_marks ≡ map (tok_of text) marks ++ tok_of text m ∷ [] = ap (map (tok_of text)) g ∙ map-append (tok_of text) marks (m ∷ []) in
     rw (e, marked) longer
 
@@ -33,12 +38,21 @@ pub toks_all : (text : List ℕ) (marks : List Mark) → toks_from text marks 0 
 unfolding toks_from
 toks_all text marks = refl
 
+pub toks_none : (text : List ℕ) (ts : List Token) (marks : List Mark) → ts ≡ [] → marks ≡ [] → ToksOf text ts (map (tok_of text) marks)
+toks_none text ts marks e g = rw (e, g) none
+
+pub toks_done : (text : List ℕ) (ts : List Token) (marks : List Mark) (i : ℕ) → length ts ≤ i → ToksOf text (take i ts) (map (tok_of text) marks) → ToksOf text ts (toks_from text marks 0)
+toks_done text ts marks i h so_far = rw toks_all (rw (take_all i ts h) at so_far)
+
 no_more : (marks : List Mark) (n : ℕ) → n ≡ length marks → drop n marks ≡ []
-no_more marks n e = search rules
+no_more marks n e = drop_all n marks (omega arith)
 
 pub at_end : (text : List ℕ) (marks : List Mark) (i : ℕ) (s : Span) → IsNext end s text marks i → i + 1 ≡ length marks → toks_from text marks i ≡ at end s ∷ []
 unfolding toks_from
 at_end text marks i s next e = next ∙ ap (λ q. at end s ∷ map (tok_of text) q) (no_more marks (i + 1) e)
+
+pub end_at : (text : List ℕ) (marks : List Mark) (i : ℕ) (s : Span) (bytes : List ℕ) (kind : Kind) → kind ≡ End → IsNext (terminal_of bytes kind) s text marks i → i + 1 ≡ length marks → toks_from text marks i ≡ at end s ∷ []
+end_at text marks i s bytes kind is next e = at_end text marks i s (rw is at next) e
 
 last_part : (a b c : Bool) → IsTrue (a && b && c) → IsTrue c
 last_part true true c h = h
@@ -57,3 +71,20 @@ read_of bytes tokens toks procs prog lexed toks_of spelt over is =
       procs = spelt.meant;
       distinct = distinct_names (names procs) distinct;
     })
+
+-- ---- whole texts, at the values that the code has
+
+pub names_extended : (text : List ℕ) (new old other more : List Span) → new ≡ old ++ other → other ≡ more → names_at text new ≡ names_at text old ++ names_at text more
+names_extended text new old other more e g = ap (names_at text) (e ∙ ap (λ xs. old ++ xs) g) ∙ map-append (slice text) old more
+
+pub program_whole : (text : List ℕ) (scopes places : List Span) (procs seen : List ProcDecl) {s : Span} {ts us : List Tok} → places ≡ scopes → seen ≡ procs
+    → Starts (names_at text scopes) (map proc_view procs) ts us → us ≡ at end s ∷ [] → AreApart (names_at text places) (names (map proc_view seen))
+    → SpellsProgram (names (map proc_view procs)) (map proc_view procs) ts
+program_whole text scopes places procs seen e g so_far ends apart =
+    let apart_here : AreApart (names_at text scopes) (names (map proc_view seen)) = subst (λ v. AreApart (names_at text v) (names (map proc_view seen))) e apart in
+    program_ends (names (map proc_view procs)) so_far ends (subst (λ v. AreApart (names_at text scopes) (names (map proc_view v))) g apart_here)
+
+pub read_whole : (bytes : List ℕ) (tokens seen : List Token) (marks read : List Mark) (procs : List Proc) (prog : Prog) → seen ≡ tokens → read ≡ marks → Lexed 0 bytes tokens → ToksOf bytes seen (toks_from bytes marks 0)
+    → SpellsProgram (names procs) procs (toks_from bytes read 0) → IsTrue (are_over_truth_values procs) → prog ≡ over_truth_values procs → IsReadOf bytes prog
+read_whole bytes tokens seen marks read procs prog e g lexed toks_of spelt over is =
+    read_of bytes tokens (toks_from bytes marks 0) procs prog lexed (subst (λ v. ToksOf bytes v (toks_from bytes marks 0)) e toks_of) (subst (λ v. SpellsProgram (names procs) procs (toks_from bytes v 0)) g spelt) over is

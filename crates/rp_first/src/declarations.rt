@@ -28,7 +28,7 @@ fn bools(alloc: Global, count: usize) -> Result<List<Ty>, ReadError>
     ensures { IfOk result (λ types. types ≡ replicate count (ty.Datatype 0)) }
 {
     let mut types = List::new(alloc);
-    for _i in 0..count {
+    for i in 0..count {
         types.push(Ty::Datatype(0))?;
     }
     Ok(types)
@@ -60,7 +60,6 @@ fn made(alloc: Global, name: &[u8], at: Span, count: usize, body: List<Stmt>) ->
     })
 }
 
-#[tactic(none)]
 impl<'a> Source<'a> {
     /// Refuses a name that stands at one of the places.
     fn refuse_among(&self, name: &[u8], places: &[Span]) -> Result<(), ReadError>
@@ -72,7 +71,8 @@ impl<'a> Source<'a> {
         if self.bytes(*first)? == name {
             return Err(ReadError::NotYet);
         }
-        self.refuse_among(name, others)
+        self.refuse_among(name, others)?;
+        Ok(())
     }
 
     /// Refuses a name that stands at two of the places.
@@ -83,7 +83,8 @@ impl<'a> Source<'a> {
             return Ok(());
         };
         self.refuse_among(self.bytes(*first)?, others)?;
-        self.refuse_same(others)
+        self.refuse_same(others)?;
+        Ok(())
     }
 
     /// The parameters in parentheses, by the places of their names.

@@ -17,7 +17,6 @@ use rp_lang::Formula;
 use rp_span::Span;
 use rp_value::{Boxed, List};
 
-#[tactic(none)]
 impl<'a> Body<'a> {
     /// The slot of the variable with this name.
     fn slot(&self, name: Span) -> Result<u32, ReadError>

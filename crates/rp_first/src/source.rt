@@ -1,6 +1,6 @@
 //! A text and its marks, one by one.
 
-ghost use Rattle.std.specs.Prelude.{◌≡◌, ◌<◌, ◌≤◌, ◌+◌, IfOk, OnOk, length, IsTrue};
+ghost use Rattle.std.specs.Prelude.{◌≡◌, ◌<◌, ◌+◌, ◌^◌, IfOk, OnOk, length, IsTrue};
 ghost use Rattle.rp_span.specs.declared.Span.{Span};
 ghost use Rattle.rp_grammar.specs.Terminals.{symbol, word, name};
 ghost use Rattle.rp_grammar.specs.Toks.{slice};
@@ -22,6 +22,7 @@ impl<'a> Source<'a> {
     pub(crate) fn mark(&self, at: usize) -> Result<Mark, ReadError>
         ensures next { IfOk result (λ m. IsNext (terminal_of (slice self.now.text.now m.span) m.kind) m.span self.now.text.now self.now.marks.now at) }
         ensures within { OnOk result (at < length self.now.marks.now) }
+        ensures fits { OnOk result (at + 1 < 2 ^ 64) }
     {
         if at < self.marks.len() {
             Ok(self.marks[at])
@@ -34,6 +35,7 @@ impl<'a> Source<'a> {
     pub(crate) fn is_symbol(&self, wanted: Symbol, at: usize) -> bool
         ensures next { IsTrue result → (s : Span) × IsNext (symbol wanted) s self.now.text.now self.now.marks.now at }
         ensures within { IsTrue result → at < length self.now.marks.now }
+        ensures fits { IsTrue result → at + 1 < 2 ^ 64 }
     {
         let Ok(mark) = self.mark(at) else {
             return false;
@@ -48,6 +50,7 @@ impl<'a> Source<'a> {
     pub(crate) fn symbol(&self, wanted: Symbol, at: usize) -> Result<Span, ReadError>
         ensures next { IfOk result (λ s. IsNext (symbol wanted) s self.now.text.now self.now.marks.now at) }
         ensures within { OnOk result (at < length self.now.marks.now) }
+        ensures fits { OnOk result (at + 1 < 2 ^ 64) }
     {
         let mark = self.mark(at)?;
         let Kind::Symbol(found) = mark.kind else {
@@ -63,6 +66,7 @@ impl<'a> Source<'a> {
     pub(crate) fn is_word(&self, wanted: Word, at: usize) -> bool
         ensures next { IsTrue result → (s : Span) × IsNext (word wanted) s self.now.text.now self.now.marks.now at }
         ensures within { IsTrue result → at < length self.now.marks.now }
+        ensures fits { IsTrue result → at + 1 < 2 ^ 64 }
     {
         let Ok(mark) = self.mark(at) else {
             return false;
@@ -77,6 +81,7 @@ impl<'a> Source<'a> {
     pub(crate) fn word(&self, wanted: Word, at: usize) -> Result<Span, ReadError>
         ensures next { IfOk result (λ s. IsNext (word wanted) s self.now.text.now self.now.marks.now at) }
         ensures within { OnOk result (at < length self.now.marks.now) }
+        ensures fits { OnOk result (at + 1 < 2 ^ 64) }
     {
         let mark = self.mark(at)?;
         let Kind::Word(found) = mark.kind else {
@@ -92,6 +97,7 @@ impl<'a> Source<'a> {
     pub(crate) fn name(&self, at: usize) -> Result<Span, ReadError>
         ensures next { IfOk result (λ s. IsNext (name (slice self.now.text.now s)) s self.now.text.now self.now.marks.now at) }
         ensures within { OnOk result (at < length self.now.marks.now) }
+        ensures fits { OnOk result (at + 1 < 2 ^ 64) }
     {
         let mark = self.mark(at)?;
         let Kind::Name = mark.kind else {

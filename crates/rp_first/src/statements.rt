@@ -16,7 +16,6 @@ use rp_lang::Stmt;
 use rp_span::Span;
 use rp_value::{Boxed, List};
 
-#[tactic(none)]
 impl<'a> Body<'a> {
     #[cycle(statements)]
     fn statement(&self, depth: u32, at: usize) -> Result<(Stmt, usize), ReadError>

@@ -59,7 +59,6 @@ fn marks_of(alloc: Global, text: &[u8], tokens: &[Token]) -> Result<Vec<Mark>, R
     Ok(marks)
 }
 
-#[tactic(none)]
 impl<'a> Source<'a> {
     /// The end of the text, which must be next.
     fn end(&self, at: usize) -> Result<Span, ReadError>
@@ -83,7 +82,8 @@ impl<'a> Source<'a> {
             return Ok(());
         };
         refuse_proc(self.bytes(*first)?, procs)?;
-        self.refuse_procs(others, procs)
+        self.refuse_procs(others, procs)?;
+        Ok(())
     }
 
     /// The procedures of the whole text.
@@ -118,7 +118,8 @@ fn refuse_proc(name: &[u8], procs: &[ProcDecl]) -> Result<(), ReadError>
     if first.name.as_slice() == name {
         return Err(ReadError::NotYet);
     }
-    refuse_proc(name, others)
+    refuse_proc(name, others)?;
+    Ok(())
 }
 
 /// The program of a text of the first form.

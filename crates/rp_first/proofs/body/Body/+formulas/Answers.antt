@@ -1,4 +1,4 @@
-use Rattle.std.proofs.Common.{List, map, arith, ap, ◌∙◌}
+use Rattle.std.proofs.Common.{List, map, ◌+◌, ◌^◌, ◌<◌, arith, rules, ap, ◌∙◌}
 use Rattle.rp_lang.specs.Formulas.{Fo}
 use Rattle.rp_lang.specs.Views.{formula_view, fos_of}
 use Rattle.rp_lang.specs.Formulas as fo
@@ -14,6 +14,7 @@ pub conjunction-chain-init : goal.conjunction-chain-init
 conjunction-chain-init t c = record {
   ahead = c.in_ok-first.ensures.moves;
   within = c.is_symbol.ensures.within c.if-not-is_symbol.false;
+  fits = c.is_symbol.ensures.fits c.if-not-is_symbol.false;
   next = c.is_symbol.ensures.next c.if-not-is_symbol.false;
   gathers = as_gathered (map_first formula_view c.push.new.self c.new-parts.result c.in_ok-first.first c.new-parts.ensures c.in_ok-push.ensures.ok) (first_gathers c.in_ok-first.ensures.reads);
 }
@@ -22,6 +23,7 @@ pub conjunction-chain-preserved : goal.conjunction-chain-preserved
 conjunction-chain-preserved t c = record {
   ahead = omega (arith, c.in_ok-part.ensures.moves, c.chain.invariant.ahead);
   within = c.is_symbol-in-chain.ensures.within c.if-not-is_symbol-2.false;
+  fits = c.is_symbol-in-chain.ensures.fits c.if-not-is_symbol-2.false;
   next = c.is_symbol-in-chain.ensures.next c.if-not-is_symbol-2.false;
   gathers = as_gathered (map_pushed formula_view c.push-in-chain.new.self c.chain.parts c.in_ok-part.part c.in_ok-push-2.ensures.ok) (and_next c.requires c.chain.invariant.gathers c.chain.invariant.next.1 c.in_ok-part.ensures.reads);
 }
@@ -39,6 +41,7 @@ pub disjunction-chain-init : goal.disjunction-chain-init
 disjunction-chain-init t c = record {
   ahead = c.in_ok-first.ensures.moves;
   within = c.is_symbol.ensures.within c.if-not-is_symbol.false;
+  fits = c.is_symbol.ensures.fits c.if-not-is_symbol.false;
   next = c.is_symbol.ensures.next c.if-not-is_symbol.false;
   gathers = as_gathered (map_first formula_view c.push.new.self c.new-parts.result c.in_ok-first.first c.new-parts.ensures c.in_ok-push.ensures.ok) (first_gathers c.in_ok-first.ensures.reads);
 }
@@ -47,6 +50,7 @@ pub disjunction-chain-preserved : goal.disjunction-chain-preserved
 disjunction-chain-preserved t c = record {
   ahead = omega (arith, c.in_ok-part.ensures.moves, c.chain.invariant.ahead);
   within = c.is_symbol-in-chain.ensures.within c.if-not-is_symbol-2.false;
+  fits = c.is_symbol-in-chain.ensures.fits c.if-not-is_symbol-2.false;
   next = c.is_symbol-in-chain.ensures.next c.if-not-is_symbol-2.false;
   gathers = as_gathered (map_pushed formula_view c.push-in-chain.new.self c.chain.parts c.in_ok-part.part c.in_ok-push-2.ensures.ok) (or_next c.requires c.chain.invariant.gathers c.chain.invariant.next.1 c.in_ok-part.ensures.reads);
 }
@@ -89,3 +93,30 @@ operand-returns-clause-reads t c = as_meant c.variable.ensures (variable_reads c
 pub parenthesized-returns-clause-reads : goal.parenthesized-returns-clause-reads
 parenthesized-returns-clause-reads t c =
     as_meant (ap formula_view (c.into_inner.ensures ∙ c.in_ok-inside-2.ensures)) (parens_read c.requires c.in_ok-symbol.ensures.next (deeper_expr c.args.depth c.in_ok-inside.ensures.reads) c.in_ok-symbol-2.ensures.next)
+
+pub conjunction-overflow_add-next : goal.conjunction-overflow_add-next
+conjunction-overflow_add-next t c = let fits : c.chain.next + 1 < 2 ^ 64 = c.chain.invariant.fits in search rules
+
+pub disjunction-overflow_add-next : goal.disjunction-overflow_add-next
+disjunction-overflow_add-next t c = let fits : c.chain.next + 1 < 2 ^ 64 = c.chain.invariant.fits in search rules
+
+pub formula-overflow_add-next : goal.formula-overflow_add-next
+formula-overflow_add-next t c = let fits : c.in_ok-left.next + 1 < 2 ^ 64 = c.is_symbol.ensures.fits c.if-not-is_symbol.false in search rules
+
+pub negated-overflow_add-at : goal.negated-overflow_add-at
+negated-overflow_add-at t c = let fits : c.args.at + 1 < 2 ^ 64 = c.is_symbol.ensures.fits c.if-not-is_symbol.false in search rules
+
+pub operand-overflow_add-result : goal.operand-overflow_add-result
+operand-overflow_add-result t c = let fits : c.args.at + 1 < 2 ^ 64 = c.is_word.ensures.fits c.if-is_word.true in search rules
+
+pub operand-overflow_add-result-then-is_word-2 : goal.operand-overflow_add-result-then-is_word-2
+operand-overflow_add-result-then-is_word-2 t c = let fits : c.args.at + 1 < 2 ^ 64 = c.is_word-2.ensures.fits c.if-is_word-2.true in search rules
+
+pub operand-overflow_add-result-2 : goal.operand-overflow_add-result-2
+operand-overflow_add-result-2 t c = let fits : c.args.at + 1 < 2 ^ 64 = c.in_ok-name.ensures.fits in search rules
+
+pub parenthesized-overflow_add-at : goal.parenthesized-overflow_add-at
+parenthesized-overflow_add-at t c = let fits : c.args.at + 1 < 2 ^ 64 = c.in_ok-symbol.ensures.fits in search rules
+
+pub parenthesized-overflow_add-result : goal.parenthesized-overflow_add-result
+parenthesized-overflow_add-result t c = let fits : c.in_ok-inside.after + 1 < 2 ^ 64 = c.in_ok-symbol-2.ensures.fits in search rules

@@ -1,4 +1,4 @@
-use Rattle.std.proofs.Common.{ℕ, ◌+◌, ◌-◌, ◌*◌, ◌<◌, length, map}
+use Rattle.std.proofs.Common.{◌+◌, ◌-◌, ◌*◌, ◌^◌, ◌<◌, length, map}
 use Rattle.rp_span.specs.declared.Span.{Span}
 use Rattle.rp_grammar.specs.declared.terminal.Symbol.TheVariants as symbol
 use Rattle.rp_grammar.specs.Terminals.{symbol}
@@ -34,6 +34,7 @@ abbrev pub invariant-conjunction-chain : goal.invariant-conjunction-chain
 invariant-conjunction-chain l = record {
   ahead : l.at < l.next;
   within : l.next < length l.self.source.marks.now;
+  fits : l.next + 1 < 2 ^ 64;
   next : (s : Span) × IsNext (symbol symbol.And) s l.self.source.text.now l.self.source.marks.now l.next;
   gathers : Gathers (Notx l.depth) (AndMore l.depth) (names_at l.self.source.text.now l.self.scope.now) (map formula_view l.parts) (toks_from l.self.source.text.now l.self.source.marks.now l.at) (toks_from l.self.source.text.now l.self.source.marks.now l.next);
 }
@@ -45,6 +46,7 @@ abbrev pub invariant-disjunction-chain : goal.invariant-disjunction-chain
 invariant-disjunction-chain l = record {
   ahead : l.at < l.next;
   within : l.next < length l.self.source.marks.now;
+  fits : l.next + 1 < 2 ^ 64;
   next : (s : Span) × IsNext (symbol symbol.Or) s l.self.source.text.now l.self.source.marks.now l.next;
   gathers : Gathers (Andx l.depth) (OrMore l.depth) (names_at l.self.source.text.now l.self.scope.now) (map formula_view l.parts) (toks_from l.self.source.text.now l.self.source.marks.now l.at) (toks_from l.self.source.text.now l.self.source.marks.now l.next);
 }

@@ -1,4 +1,4 @@
-use Rattle.std.proofs.Common.{map, arith, ap, ◌∙◌}
+use Rattle.std.proofs.Common.{map, ◌+◌, ◌^◌, ◌<◌, arith, rules, ap, ◌∙◌}
 use Rattle.rp_grammar.specs.Parts.{join}
 use Rattle.rp_lang.specs.Views.{formula_view, stmt_view, sts_of, stmts_view}
 use Rattle.rp_lang.specs.Stmts as st
@@ -53,3 +53,33 @@ otherwise-returns-clause-reads t c =
     let next = c.is_word.ensures.next c.if-not-is_word.false in
     as_else (map_first stmt_view c.push.new.self c.new-read.result c.in_ok-statement.statement c.new-read.ensures c.in_ok-push.ensures.ok)
     (else_if_reads c.requires next.1 (deeper_if c.args.depth c.in_ok-statement.ensures.reads))
+
+pub block-overflow_add-at : goal.block-overflow_add-at
+block-overflow_add-at t c = let fits : c.args.at + 1 < 2 ^ 64 = c.in_ok-open.ensures.fits in search rules
+
+pub block-overflow_add-result : goal.block-overflow_add-result
+block-overflow_add-result t c = let fits : c.in_ok-read.after + 1 < 2 ^ 64 = c.in_ok-close.ensures.fits in search rules
+
+pub branch-overflow_add-open : goal.branch-overflow_add-open
+branch-overflow_add-open t c = let fits : c.args.at + 1 < 2 ^ 64 = c.in_ok-start.ensures.fits in search rules
+
+pub branch-overflow_add-open-2 : goal.branch-overflow_add-open-2
+branch-overflow_add-open-2 t c = let fits : c.args.at + 1 + 1 < 2 ^ 64 = c.in_ok-symbol.ensures.fits in search rules
+
+pub branch-overflow_add-close : goal.branch-overflow_add-close
+branch-overflow_add-close t c = let fits : c.in_ok-condition.close + 1 < 2 ^ 64 = c.in_ok-symbol-2.ensures.fits in search rules
+
+pub statement-overflow_add-at : goal.statement-overflow_add-at
+statement-overflow_add-at t c = let fits : c.args.at + 1 < 2 ^ 64 = c.in_ok-start.ensures.fits in search rules
+
+pub statement-overflow_add-result : goal.statement-overflow_add-result
+statement-overflow_add-result t c = let fits : c.in_ok-condition.after + 1 < 2 ^ 64 = c.in_ok-end.ensures.fits in search rules
+
+pub otherwise-overflow_add-at : goal.otherwise-overflow_add-at
+otherwise-overflow_add-at t c = let fits : c.args.at + 1 < 2 ^ 64 = c.is_word.ensures.fits c.if-not-is_word.false in search rules
+
+pub otherwise-overflow_add-at-2 : goal.otherwise-overflow_add-at-2
+otherwise-overflow_add-at-2 t c = let fits : c.args.at + 1 < 2 ^ 64 = c.is_word.ensures.fits c.if-not-is_word.false in search rules
+
+pub otherwise-overflow_add-at-then-not-is_word-2 : goal.otherwise-overflow_add-at-then-not-is_word-2
+otherwise-overflow_add-at-then-not-is_word-2 t c = let fits : c.args.at + 1 < 2 ^ 64 = c.is_word.ensures.fits c.if-not-is_word.false in search rules
