@@ -1,7 +1,7 @@
 -- Chains of operands with one operator between each two, gathered one by one.
-use Rattle.std.proofs.Common.{ℕ, ◌≤◌, ◌<◌, ◌+◌, ◌≡◌, Bool, true, false, ◌&&◌, IsTrue, List, [], ◌∷◌, ◌++◌, length, map, ap, sym, ◌∙◌, refl, subst, append_assoc, length-append, arith}
+use Rattle.std.proofs.Common.{ℕ, ◌≤◌, ◌<◌, ◌≡◌, List, [], ◌∷◌, ◌++◌, length, ap, sym, ◌∙◌, append_assoc, length-append, arith}
 use Rattle.rp_span.specs.declared.Span.{Span}
-use Rattle.rp_grammar.specs.Terminals.{Terminal, Tok, at, Placed, plain, on}
+use Rattle.rp_grammar.specs.Terminals.{Terminal, Tok, at, Placed, on}
 use Rattle.rp_grammar.specs.Trees.{ExprTree}
 use Rattle.rp_grammar.specs.Parts.{Part}
 use Rattle.rp_types.specs.Resolution.{Name, more_formulas}

@@ -1,20 +1,20 @@
 -- What the tokens of expressions mean: a lemma for each production of the first form.
-use Rattle.std.proofs.Common.{ℕ, suc, ◌≤◌, ◌≡◌, Bool, true, false, List, [], ◌∷◌, ◌++◌, map, ap, sym, ◌∙◌, refl, Some, slice_get, arith}
+use Rattle.std.proofs.Common.{ℕ, suc, ◌≤◌, ◌≡◌, true, false, List, [], ◌∷◌, ◌++◌, map, ap, sym, ◌∙◌, refl, Some, slice_get, arith}
 use Rattle.std.proofs.lemmas.List.{append-nil}
 use Rattle.rp_span.specs.declared.Span.{Span}
 use Rattle.rp_grammar.specs.declared.terminal.Word.TheVariants as word
 use Rattle.rp_grammar.specs.declared.terminal.Symbol.TheVariants as symbol
-use Rattle.rp_grammar.specs.Terminals.{Terminal, name, word, symbol, Tok, at, Placed, plain, on}
+use Rattle.rp_grammar.specs.Terminals.{name, word, symbol, Tok, at, Placed, plain, on}
 use Rattle.rp_grammar.specs.Trees.{ident, ExprTree, ExprForm, ExprTrees, AccessTree, StepTrees, ArgTrees}
-use Rattle.rp_grammar.specs.Parts.{join, Part, tree_of, extent_of, built, in_parens}
+use Rattle.rp_grammar.specs.Parts.{Part, built, in_parens}
 use Rattle.rp_grammar.specs.Begins.{AtMost}
-use Rattle.rp_grammar.specs.Exprs.{Expr, expr, ImpliesMore, no_right, right, Orx, or, OrMore, no_or, or_more, Andx, and, AndMore, no_and, and_more, Notx, negated, comparison, Cmp, cmp, no_cmp, Sum, sum, no_sum, Prim, true_, false_, access, parens, rooted, no_step, not_called, not_part, and_part, or_part, between}
-use Rattle.rp_types.specs.Resolution.{Name, FormulaOf, truth, variable, not, and, or, implies, truth_of, FormulasOf, no_formula, more_formulas}
-use Rattle.rp_lang.specs.Exprs.{Ex, Slot, Con, no_ex}
+use Rattle.rp_grammar.specs.Exprs.{Expr, expr, no_right, right, Orx, or, OrMore, no_or, or_more, Andx, and, AndMore, no_and, and_more, Notx, negated, comparison, cmp, no_cmp, sum, no_sum, Prim, true_, false_, access, parens, rooted, no_step, not_called, not_part, and_part, or_part, between}
+use Rattle.rp_types.specs.Resolution.{Name, truth, variable, not, and, or, implies, FormulasOf, no_formula, more_formulas}
+use Rattle.rp_lang.specs.Exprs.{Slot, Con, no_ex}
 use Rattle.rp_lang.specs.Formulas.{Fo, Fos, also_fo, And, Or, Not, Implies, Holds}
 use Rattle.rp_first.specs.Reads.{Spells, Reads, IsFormula, AreFormulas}
 use Rattle.rp_lang.specs.Views.{fos_of}
-use Rattle.rp_first.proofs.Chains.{Members, members, Gathers, first_gathers, next_gathers}
+use Rattle.rp_first.proofs.Chains.{Members, members, Gathers, next_gathers}
 use Rattle.rp_first.proofs.Tests.{both_true}
 
 -- ---- operands

@@ -1,5 +1,5 @@
 -- Names among names.
-use Rattle.std.proofs.Common.{ℕ, zero, suc, ◌+◌, ◌<◌, ◌≡◌, ◌≢◌, Bool, true, false, not, ◌||◌, ◌&&◌, nat_eq, IsTrue, List, [], ◌∷◌, length, get_or, Contains, map, refl, sym, ap, ◌∙◌, arith}
+use Rattle.std.proofs.Common.{ℕ, zero, suc, ◌≡◌, ◌≢◌, Bool, true, false, not, ◌&&◌, nat_eq, IsTrue, List, [], ◌∷◌, length, get_or, Contains, map, refl, sym, ◌∙◌, arith}
 use Rattle.std.specs.Cmp.Lexicographic.{pointwise}
 use Rattle.std.specs.List.{list_any}
 use Rattle.std.proofs.lemmas.Slice.Eq.{bytes_eq-Decides}
@@ -45,8 +45,8 @@ module _ {X : Type 0} {A : Type 0} (f : X → A) where
 
   pub among_next : (xs others : List X) (x : X) (a b : A) → xs ≡ x ∷ others → b ≡ f x → b ≢ a → (Contains (map f others) a → ⊥) → Contains (map f xs) a → ⊥
   among_next xs others x a b e same ne none h =
-    let later : Contains (f x ∷ map f others) a = rw e at h in
-    not_among (f x) (map f others) a (λ g. ne (same ∙ g)) none later
+      let later : Contains (f x ∷ map f others) a = rw e at h in
+      not_among (f x) (map f others) a (λ g. ne (same ∙ g)) none later
 
 module _ {X : Type 0} (f : X → Name) where
   pub distinct_none : (xs : List X) → length xs ≡ 0 → AreDistinct (map f xs)

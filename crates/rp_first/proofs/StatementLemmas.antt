@@ -1,18 +1,17 @@
 -- What the tokens of statements mean: a lemma for each production of the first form.
-use Rattle.std.proofs.Common.{ℕ, suc, ◌≤◌, ◌≡◌, IsTrue, List, [], ◌∷◌, ◌++◌, map, ap, sym, ◌∙◌, refl, subst, append_assoc}
+use Rattle.std.proofs.Common.{ℕ, suc, ◌≤◌, ◌≡◌, List, [], ◌∷◌, ◌++◌, ap, sym, ◌∙◌, refl, subst, append_assoc}
 use Rattle.std.proofs.lemmas.List.{append-nil}
 use Rattle.rp_span.specs.declared.Span.{Span}
 use Rattle.rp_grammar.specs.declared.terminal.Word.TheVariants as word
 use Rattle.rp_grammar.specs.declared.terminal.Symbol.TheVariants as symbol
-use Rattle.rp_grammar.specs.Terminals.{word, symbol, Tok, at, Placed, plain, on}
+use Rattle.rp_grammar.specs.Terminals.{word, symbol, Tok, at, Placed, on}
 use Rattle.rp_grammar.specs.Trees.{ExprTree, BlockTree, StmtTree, StmtForm, ElseTree, stmts}
-use Rattle.rp_grammar.specs.Parts.{join, Part, tree_of}
-use Rattle.rp_grammar.specs.Begins.{AtMost}
+use Rattle.rp_grammar.specs.Parts.{join, tree_of}
 use Rattle.rp_grammar.specs.Exprs.{Expr}
-use Rattle.rp_grammar.specs.Stmts.{stmt_span, block_span, Block, block, Stmts, no_stmt, more_stmts, Stmt, if_, assert, IfStmt, branch, Else, no_else, else_block, else_if}
-use Rattle.rp_types.specs.Resolution.{Name, StmtOf, assert, if_, BlockOf, block, StmtsOf, no_stmt, more_stmts, ElseOf, no_else, else_block, else_if}
+use Rattle.rp_grammar.specs.Stmts.{block_span, Block, block, Stmts, no_stmt, more_stmts, Stmt, if_, assert, IfStmt, branch, Else, no_else, else_block, else_if}
+use Rattle.rp_types.specs.Resolution.{Name, StmtOf, assert, if_, block, no_stmt, more_stmts, no_else, else_block, else_if}
 use Rattle.rp_lang.specs.Formulas.{Fo}
-use Rattle.rp_lang.specs.Stmts.{St, Sts, Assert, If}
+use Rattle.rp_lang.specs.Stmts.{St, Assert, If}
 use Rattle.rp_first.specs.Reads.{Spells, Reads, IsFormula, IsStmt, AreStmts, IsBlock, Otherwise, nothing, block, chain, last_of, IsElse}
 use Rattle.rp_lang.specs.Views.{sts_of}
 use Rattle.rp_first.proofs.Tests.{both_true}

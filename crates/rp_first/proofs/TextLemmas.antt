@@ -1,6 +1,6 @@
 -- Tokens of whole texts.
-use Rattle.std.proofs.Common.{ℕ, suc, ◌+◌, ◌<◌, ◌≤◌, ◌≡◌, Bool, true, false, ◌&&◌, nat_le, IsTrue, List, [], ◌∷◌, ◌++◌, length, get_or, take, drop, map, refl, sym, ap, ◌∙◌, subst, arith}
-use Rattle.std.proofs.lemmas.List.{map-append, take_all, drop_all, take_more}
+use Rattle.std.proofs.Common.{ℕ, suc, ◌+◌, ◌≤◌, ◌≡◌, Bool, true, false, ◌&&◌, nat_le, IsTrue, List, [], ◌∷◌, ◌++◌, length, take, drop, map, refl, ap, ◌∙◌, subst, arith, rules, Option, Some, IsSome, IfSome, ◌↔◌}
+use Rattle.std.proofs.lemmas.List.{map-append, take_all, drop_all}
 use Rattle.std.specs.List.{list_all}
 use Rattle.rp_span.specs.declared.Span.{Span}
 use Rattle.rp_grammar.specs.declared.Token.{Token}
@@ -11,6 +11,8 @@ use Rattle.rp_types.specs.Resolution.{AreApart, names}
 use Rattle.rp_lang.specs.declared.proc.ProcDecl.{ProcDecl}
 use Rattle.rp_lang.specs.Programs.{Proc, Prog}
 use Rattle.rp_lang.specs.Views.{proc_view}
+use Rattle.rp_lang.specs.declared.program.Program.{Program}
+use Rattle.rp_lang.specs.ProgramView.{program_view}
 use Rattle.rp_lang.specs.FirstForm.{are_over_truth_values, over_truth_values, is_over_truth_values, are_distinct}
 use Rattle.rp_first.specs.declared.mark.Kind.{Kind}
 use Rattle.rp_first.specs.declared.mark.Kind.TheVariants.{End}
@@ -74,8 +76,12 @@ read_of bytes tokens toks procs prog lexed toks_of spelt over is =
 
 -- ---- whole texts, at the values that the code has
 
-pub names_extended : (text : List ℕ) (new old other more : List Span) → new ≡ old ++ other → other ≡ more → names_at text new ≡ names_at text old ++ names_at text more
-names_extended text new old other more e g = ap (names_at text) (e ∙ ap (λ xs. old ++ xs) g) ∙ map-append (slice text) old more
+pub length_names : (text : List ℕ) (spans : List Span) → length spans ≡ length (names_at text spans)
+length_names text [] = refl
+length_names text (s ∷ ss) = ap suc (length_names text ss)
+
+pub names_extended : (text : List ℕ) (new old lent added : List Span) → new ≡ old ++ lent → lent ≡ added → names_at text new ≡ names_at text old ++ names_at text added
+names_extended text new old lent added e g = ap (names_at text) (e ∙ ap (λ xs. old ++ xs) g) ∙ map-append (slice text) old added
 
 pub program_whole : (text : List ℕ) (scopes places : List Span) (procs seen : List ProcDecl) {s : Span} {ts us : List Tok} → places ≡ scopes → seen ≡ procs
     → Starts (names_at text scopes) (map proc_view procs) ts us → us ≡ at end s ∷ [] → AreApart (names_at text places) (names (map proc_view seen))
@@ -88,3 +94,11 @@ pub read_whole : (bytes : List ℕ) (tokens seen : List Token) (marks read : Lis
     → SpellsProgram (names procs) procs (toks_from bytes read 0) → IsTrue (are_over_truth_values procs) → prog ≡ over_truth_values procs → IsReadOf bytes prog
 read_whole bytes tokens seen marks read procs prog e g lexed toks_of spelt over is =
     read_of bytes tokens (toks_from bytes marks 0) procs prog lexed (subst (λ v. ToksOf bytes v (toks_from bytes marks 0)) e toks_of) (subst (λ v. SpellsProgram (names procs) procs (toks_from bytes v 0)) g spelt) over is
+
+-- what the making of a program says where there is one
+pub first_form_said : (found : Option Program) (p : Program) (procs : List Proc) → found ≡ Some p → (IsSome found ↔ IsTrue (are_over_truth_values procs)) → IfSome found (λ q. program_view q ≡ over_truth_values procs)
+    → IsTrue (are_over_truth_values procs) × (program_view p ≡ over_truth_values procs)
+first_form_said found p procs e iff is =
+    let iff_here : IsSome (Some p) ↔ IsTrue (are_over_truth_values procs) = subst (λ o. IsSome o ↔ IsTrue (are_over_truth_values procs)) e iff in
+    let is_here : IfSome (Some p) (λ q. program_view q ≡ over_truth_values procs) = subst (λ o. IfSome o (λ q. program_view q ≡ over_truth_values procs)) e is in
+    (iff_here.0 (search rules), is_here)

@@ -1,5 +1,5 @@
 -- What it is for some tokens to spell a phrase, whatever follows, and what the phrases of the first form mean.
-use Rattle.std.specs.Prelude.{ℕ, suc, ◌-◌, ◌≡◌, None, IsTrue, List, [], ◌∷◌, map, length, replicate}
+use Rattle.std.specs.Prelude.{ℕ, suc, ◌-◌, ◌≡◌, None, IsTrue, List, ◌∷◌, map, length, replicate}
 use Rattle.std.specs.List.{list_all}
 use Rattle.rp_span.specs.declared.Span.{Span}
 use Rattle.rp_value.specs.declared.tables.Ty.{Ty}

@@ -46,7 +46,13 @@ fn last_byte(at: Span) -> Span
 }
 
 /// The procedure of this name, of this many parameters, whose body ends where the procedure does.
-fn made(alloc: Global, name: &[u8], at: Span, count: usize, body: List<Stmt>) -> Result<ProcDecl, ReadError>
+fn made(
+    alloc: Global,
+    name: &[u8],
+    at: Span,
+    count: usize,
+    body: List<Stmt>,
+) -> Result<ProcDecl, ReadError>
     ensures { IfOk result (λ p. MakesProc name.now at count (stmts_view body) (proc_view p)) }
 {
     Ok(ProcDecl {
@@ -115,7 +121,11 @@ impl<'a> Source<'a> {
     }
 
     /// A procedure, and the places of its parameters' names.
-    pub(crate) fn procedure(&self, alloc: Global, at: usize) -> Result<(ProcDecl, Vec<Span>, usize), ReadError>
+    pub(crate) fn procedure(
+        &self,
+        alloc: Global,
+        at: usize,
+    ) -> Result<(ProcDecl, Vec<Span>, usize), ReadError>
         ensures reads { IfOk result (λ x. Reads Decl (IsDecl (names_at self.now.text.now x.1.items) (proc_view x.0)) (toks_from self.now.text.now self.now.marks.now at) (toks_from self.now.text.now self.now.marks.now x.2)) }
         ensures moves { IfOk result (λ x. at < x.2) }
     {

@@ -43,7 +43,9 @@ impl<'a> Body<'a> {
     {
         let mut read = List::new(self.alloc);
         let mut next = at;
-        'heads: while next < self.source.marks.len() && !self.source.is_symbol(Symbol::CloseBrace, next) {
+        'heads: while next < self.source.marks.len()
+            && !self.source.is_symbol(Symbol::CloseBrace, next)
+        {
             let (statement, after) = self.statement(depth, next)?;
             read.push(statement)?;
             next = after;
@@ -53,7 +55,11 @@ impl<'a> Body<'a> {
 
     /// A block, and its place.
     #[cycle(statements)]
-    pub(crate) fn block(&self, depth: u32, at: usize) -> Result<(List<Stmt>, Span, usize), ReadError>
+    pub(crate) fn block(
+        &self,
+        depth: u32,
+        at: usize,
+    ) -> Result<(List<Stmt>, Span, usize), ReadError>
         requires { depth ≤ 64 }
         ensures reads { IfOk result (λ x. Reads (Block depth) (IsBlock (names_at self.now.source.text.now self.now.scope.now) x.1 (map stmt_view x.0)) (toks_from self.now.source.text.now self.now.source.marks.now at) (toks_from self.now.source.text.now self.now.source.marks.now x.2)) }
         ensures moves { IfOk result (λ x. at < x.2) }
@@ -84,12 +90,20 @@ impl<'a> Body<'a> {
         self.source.symbol(Symbol::CloseParen, close)?;
         let (body, body_at, next) = self.block(depth, close + 1)?;
         let (otherwise, last, after) = self.otherwise(depth, body_at, next)?;
-        Ok((branching(join(start, last), condition, body, otherwise), after))
+        Ok((
+            branching(join(start, last), condition, body, otherwise),
+            after,
+        ))
     }
 
     /// What follows an `if` with a block at this place, and the place of the last part.
     #[cycle(statements)]
-    fn otherwise(&self, depth: u32, body_at: Span, at: usize) -> Result<(List<Stmt>, Span, usize), ReadError>
+    fn otherwise(
+        &self,
+        depth: u32,
+        body_at: Span,
+        at: usize,
+    ) -> Result<(List<Stmt>, Span, usize), ReadError>
         requires { depth ≤ 64 }
         ensures reads { IfOk result (λ x. Reads (Otherwise depth) (IsElse (names_at self.now.source.text.now self.now.scope.now) body_at x.1 (map stmt_view x.0)) (toks_from self.now.source.text.now self.now.source.marks.now at) (toks_from self.now.source.text.now self.now.source.marks.now x.2)) }
         ensures moves { IfOk result (λ x. at ≤ x.2) }

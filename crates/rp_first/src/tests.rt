@@ -9,17 +9,38 @@ const READ: [(&[u8], usize); 18] = [
     (b"proc p(b: Bool) { assert b || !b; }", 1),
     (b"proc p(b: Bool) { assert b; } // p\n", 1),
     (b"proc p() {} proc q() {}", 2),
-    (b"proc p(a: Bool, b: Bool) { assert a && b && true ==> (false || a); }", 1),
+    (
+        b"proc p(a: Bool, b: Bool) { assert a && b && true ==> (false || a); }",
+        1,
+    ),
     (b"proc p(a: Bool) { assert a ==> a ==> a; }", 1),
     (b"proc p(a: Bool) { assert !!a || (!(a && a)); }", 1),
     (b"proc p(a: Bool) { if (a) { } }", 1),
-    (b"proc p(a: Bool) { if (a) { assert a; } else { assert !a; } assert true; }", 1),
-    (b"proc p(a: Bool) { if (a) { } else if (!a) { } else { assert false; } }", 1),
-    (b"proc p(a: Bool, b: Bool, c: Bool, d: Bool, e: Bool, f: Bool, g: Bool, h: Bool) { assert h; }", 1),
+    (
+        b"proc p(a: Bool) { if (a) { assert a; } else { assert !a; } assert true; }",
+        1,
+    ),
+    (
+        b"proc p(a: Bool) { if (a) { } else if (!a) { } else { assert false; } }",
+        1,
+    ),
+    (
+        b"proc p(a: Bool, b: Bool, c: Bool, d: Bool, e: Bool, f: Bool, g: Bool, h: Bool) { assert h; }",
+        1,
+    ),
     (b"proc p(a: Bool) {} proc q(a: Bool) { assert a; }", 2),
-    (b"proc p() { assert ((((((((((((((((true)))))))))))))))); }", 1),
-    (b"proc p() { if (true) { if (true) { if (true) { assert true; } } } }", 1),
-    (b"proc p(x: Bool, y: Bool) { assert x && y || y && x || true; }", 1),
+    (
+        b"proc p() { assert ((((((((((((((((true)))))))))))))))); }",
+        1,
+    ),
+    (
+        b"proc p() { if (true) { if (true) { if (true) { assert true; } } } }",
+        1,
+    ),
+    (
+        b"proc p(x: Bool, y: Bool) { assert x && y || y && x || true; }",
+        1,
+    ),
     (b"proc p(x: Bool) { assert(x); }", 1),
 ];
 

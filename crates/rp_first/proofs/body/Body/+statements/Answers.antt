@@ -1,6 +1,6 @@
 use Rattle.std.proofs.Common.{map, ◌+◌, ◌^◌, ◌<◌, arith, rules, ap, ◌∙◌}
 use Rattle.rp_grammar.specs.Parts.{join}
-use Rattle.rp_lang.specs.Views.{formula_view, stmt_view, sts_of, stmts_view}
+use Rattle.rp_lang.specs.Views.{formula_view, stmt_view, stmts_view}
 use Rattle.rp_lang.specs.Stmts as st
 use Rattle.rp_first.proofs.Gathered.{map_pushed, map_first, as_heads, as_stmt, as_block, as_else, deeper_expr, deeper_stmts, deeper_if}
 use Rattle.rp_first.proofs.StatementLemmas.{no_heads, next_head, heads_end, block_reads, assert_reads, branch_is_stmt, no_else_reads, else_block_reads, else_if_reads, branch_reads}
@@ -37,7 +37,7 @@ branch-returns-clause-reads t c =
     let condition = c.in_ok-condition-2.ensures in
     as_stmt (c.branching.ensures.stands ∙ stands)
     (c.branching.ensures.seen ∙ ap (λ a. st.If a (formula_view c.in_ok-condition-2.condition) (stmts_view c.in_ok-body.body) (stmts_view c.in_ok-otherwise.otherwise)) stands
-        ∙ ap (λ f. st.If (join c.in_ok-start.start c.in_ok-otherwise.last) (formula_view f) (stmts_view c.in_ok-body.body) (stmts_view c.in_ok-otherwise.otherwise)) condition)
+    ∙ ap (λ f. st.If (join c.in_ok-start.start c.in_ok-otherwise.last) (formula_view f) (stmts_view c.in_ok-body.body) (stmts_view c.in_ok-otherwise.otherwise)) condition)
     (branch_reads c.requires c.in_ok-start.ensures.next c.in_ok-symbol.ensures.next (deeper_expr c.args.depth c.in_ok-condition.ensures.reads) c.in_ok-symbol-2.ensures.next c.in_ok-body.ensures.reads c.in_ok-otherwise.ensures.reads)
 
 pub otherwise-returns-then-not-is_word-clause-reads : goal.otherwise-returns-then-not-is_word-clause-reads

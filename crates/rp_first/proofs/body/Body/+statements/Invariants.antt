@@ -1,4 +1,4 @@
-use Rattle.std.proofs.Common.{ℕ, ◌+◌, ◌-◌, ◌*◌, ◌≤◌, length, map}
+use Rattle.std.proofs.Common.{◌+◌, ◌-◌, ◌*◌, ◌≤◌, length, map}
 use Rattle.rp_lang.specs.Views.{stmt_view}
 use Rattle.rp_first.specs.Marks.{toks_from, names_at}
 use Rattle.rp_first.proofs.StatementLemmas.{Heads}
