@@ -4,12 +4,12 @@ ghost use Rattle.std.specs.Option.{option_map_or};
 ghost use Rattle.rp_span.specs.Places.{place_of};
 ghost use Rattle.rp_lang.specs.ProgramView.{program_view};
 ghost use Rattle.repliss_cli.specs.Answers.{IsReportOf, name_at};
-ghost use Rattle.repliss_cli.specs.FirstText.{IsRead};
+ghost use Rattle.rp_first.specs.ReadOf.{IsReadOf};
 ghost use Rattle.repliss_cli.specs.Lines.{line_for};
 
 use crate::report::{GoalLine, Report};
-use crate::stub::{ReadError, read_program};
 use event_machine::false_by_trying;
+use rp_first::{ReadError, read_program};
 use rp_lang::Program;
 use rp_span::{Pos, Text, line_of};
 use rp_value::{List, Memory, copy_bytes};
@@ -88,7 +88,7 @@ fn lines_for(
 
 /// The report on a program.
 fn report_on(alloc: Global, text: &Text, program: &Program) -> Result<Report, Memory>
-    requires read { IsRead text.now (program_view program.now) }
+    requires read { IsReadOf text.now (program_view program.now) }
     requires short { length text.now ≤ 262144 }
     ensures { IfOk result (λ report. IsReportOf text.now report) }
 {

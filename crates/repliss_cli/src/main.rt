@@ -3,7 +3,6 @@
 
 mod judge;
 mod report;
-mod stub;
 #[cfg(test)]
 mod tests;
 mod top;
