@@ -7,7 +7,7 @@ use Rattle.rp_grammar.specs.Parts.{Part}
 use Rattle.rp_types.specs.Resolution.{Name, more_formulas}
 use Rattle.rp_lang.specs.Formulas.{Fo}
 use Rattle.rp_first.specs.Reads.{Spells, Reads, IsFormula, AreFormulas}
-use Rattle.rp_first.proofs.Tests.{both_true}
+use Rattle.rp_first.proofs.Booleans.{both_true}
 
 -- the first operand of a chain, and the others
 pub data Members (Operand : List Placed → Part ExprTree → List Placed → Type 0) (More : List Placed → List (Part ExprTree) → List Placed → Type 0) : List Placed → List (Part ExprTree) → List Placed → Type 0 where

@@ -16,7 +16,7 @@ use Rattle.rp_lang.specs.Stmts.{St}
 use Rattle.rp_lang.specs.Programs.{Proc}
 use Rattle.rp_first.specs.Reads.{Spells, Reads, IsBlock, bools, AreParams, IsDecl, SpellsProgram, last_byte, MakesProc}
 use Rattle.rp_lang.specs.Views.{sts_of}
-use Rattle.rp_first.proofs.Tests.{both_true}
+use Rattle.rp_first.proofs.Booleans.{both_true}
 
 -- ---- parameters
 

@@ -15,7 +15,7 @@ use Rattle.rp_lang.specs.Formulas.{Fo, Fos, also_fo, And, Or, Not, Implies, Hold
 use Rattle.rp_first.specs.Reads.{Spells, Reads, IsFormula, AreFormulas}
 use Rattle.rp_lang.specs.Views.{fos_of}
 use Rattle.rp_first.proofs.Chains.{Members, members, Gathers, next_gathers}
-use Rattle.rp_first.proofs.Tests.{both_true}
+use Rattle.rp_first.proofs.Booleans.{both_true}
 
 -- ---- operands
 

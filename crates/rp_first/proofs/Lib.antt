@@ -1,4 +1,4 @@
-pub mod Tests
+pub mod Booleans
 pub mod Tokens
 pub mod Chains
 pub mod FormulaLemmas

@@ -14,7 +14,7 @@ use Rattle.rp_lang.specs.Formulas.{Fo}
 use Rattle.rp_lang.specs.Stmts.{St, Assert, If}
 use Rattle.rp_first.specs.Reads.{Spells, Reads, IsFormula, IsStmt, AreStmts, IsBlock, Otherwise, nothing, block, chain, last_of, IsElse}
 use Rattle.rp_lang.specs.Views.{sts_of}
-use Rattle.rp_first.proofs.Tests.{both_true}
+use Rattle.rp_first.proofs.Booleans.{both_true}
 
 -- whatever statements follow, these stand before them
 pub record Heads (d : ℕ) (scope : List Name) (sts : List St) (ts us : List Tok) : Type 0 where
