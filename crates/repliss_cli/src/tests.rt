@@ -8,10 +8,9 @@ use std::test::Fail;
 const ROOM: usize = 100_000;
 
 /// The words of a command line.
-fn words(alloc: Global, rest: &[&str]) -> Result<Vec<String>, AllocError> {
+fn words(alloc: Global, line: &str) -> Result<Vec<String>, AllocError> {
     let mut words = Vec::new(alloc);
-    words.push(String::from_str(alloc, "repliss")?)?;
-    for word in rest {
+    for word in line.split(' ') {
         words.push(String::from_str(alloc, word)?)?;
     }
     Ok(words)
@@ -46,7 +45,7 @@ fn first_line_is(alloc: Global, text: Vec<u8>, status: Status, line: &str) -> Re
     let mut out = MemSink::with_room(alloc, ROOM, Vec::new(alloc))?;
     let answer = run(
         alloc,
-        &words(alloc, &["verify", "p.rpl"])?,
+        &words(alloc, "repliss verify p.rpl")?,
         &mut files,
         &mut out,
     );
@@ -95,7 +94,7 @@ fn puts_the_report_of_a_text(rt: HostRuntime) -> Result<(), Fail> {
         let mut out = MemSink::with_room(alloc, ROOM, Vec::new(alloc))?;
         let answer = run(
             alloc,
-            &words(alloc, &["verify", "p.rpl"])?,
+            &words(alloc, "repliss verify p.rpl")?,
             &mut files,
             &mut out,
         );
@@ -181,16 +180,16 @@ fn refuses_more_than_2048_goals(rt: HostRuntime) -> Result<(), Fail> {
 #[test]
 fn refuses_other_words(rt: HostRuntime) -> Result<(), Fail> {
     let alloc = rt.alloc();
-    for rest in [
-        [].as_slice(),
-        ["verify"].as_slice(),
-        ["verify", "-p.rpl"].as_slice(),
-        ["verify", "p.rpl", "q.rpl"].as_slice(),
-        ["prove", "p.rpl"].as_slice(),
+    for line in [
+        "repliss",
+        "repliss verify",
+        "repliss verify -p.rpl",
+        "repliss verify p.rpl q.rpl",
+        "repliss prove p.rpl",
     ] {
         let mut files = file(alloc, Vec::new(alloc), &[])?;
         let mut out = MemSink::with_room(alloc, ROOM, Vec::new(alloc))?;
-        let answer = run(alloc, &words(alloc, rest)?, &mut files, &mut out);
+        let answer = run(alloc, &words(alloc, line)?, &mut files, &mut out);
         assert_eq!(rt; answer, Status::Refused);
         assert_eq!(rt;
             out.bytes(),
@@ -218,7 +217,7 @@ fn answers_a_fault_as_such(rt: HostRuntime) -> Result<(), Fail> {
         let mut out = MemSink::with_room(alloc, ROOM, writes.to_vec(alloc)?)?;
         let answer = run(
             alloc,
-            &words(alloc, &["verify", "p.rpl"])?,
+            &words(alloc, "repliss verify p.rpl")?,
             &mut files,
             &mut out,
         );
