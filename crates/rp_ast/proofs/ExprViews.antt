@@ -11,12 +11,12 @@ use Rattle.rp_ast.specs.declared.expr.ExprForm as code_expr
 use Rattle.rp_ast.specs.declared.expr.ExprForm.TheVariants as made
 use Rattle.rp_ast.specs.declared.expr.AccessStep.TheVariants as step_made
 use Rattle.rp_ast.specs.declared.expr.AccessStep.TheOpen as layer
-use Rattle.rp_ast.specs.declared.expr.AccessStep.TheViews.{out-AccessNode, out-ExprArm}
+use Rattle.rp_ast.specs.declared.expr.AccessStep.TheViews.{out-AccessNode}
 use Rattle.rp_ast.specs.declared.expr.AccessStep.TheFolds.{fold-roll-ExprForm, fold-roll-AccessStep, map-AccessNode, fold_out-AccessNode, fold_out-ExprArm, fold_out-ExprNode}
 use Rattle.rp_grammar.specs.declared.operator.CompareOp.{CompareOp}
 use Rattle.rp_grammar.specs.declared.operator.CallWord.{CallWord}
-use Rattle.rp_grammar.specs.Trees.{ExprTree, ExprForm, ExprArmTree, AccessTree, StepTree, ArgTrees}
-use Rattle.rp_ast.specs.View.{ident_view, param_view, pattern_view, arguments, step_step, expr_form_step, access_step, expr_arm_step, expr_step, step_view, expr_form_view, access_view, expr_arm_view, expr_view, steps_view, exprs_view, expr_arms_view, args_view}
+use Rattle.rp_grammar.specs.Trees.{ExprTree, ExprForm, ExprArmTree, AccessTree, StepTree}
+use Rattle.rp_ast.specs.View.{ident_view, param_view, pattern_view, step_step, expr_form_step, access_step, expr_arm_step, expr_step, step_view, expr_form_view, access_view, expr_arm_view, expr_view, steps_view, exprs_view, expr_arms_view, args_view}
 
 pub expr_view-parts : (e : ExprNode) → expr_view e ≡ ExprTree.node e.span (expr_form_view e.what)
 expr_view-parts e = fold_out-ExprNode StepTree ExprForm AccessTree ExprArmTree ExprTree step_step expr_form_step access_step expr_arm_step expr_step e

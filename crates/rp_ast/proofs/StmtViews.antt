@@ -1,5 +1,5 @@
 -- What each form of a statement is seen as.
-use Rattle.std.proofs.Common.{◌≡◌, ℕ, List, Option, Some, None, ap, sym, ◌∙◌}
+use Rattle.std.proofs.Common.{◌≡◌, List, Option, Some, None, ap, sym, ◌∙◌}
 use Rattle.rp_ast.specs.declared.ident.Ident as code_ident
 use Rattle.rp_ast.specs.declared.ty.TypeNode.{TypeNode}
 use Rattle.rp_ast.specs.declared.expr.ExprNode.{ExprNode}
@@ -14,7 +14,7 @@ use Rattle.rp_ast.specs.declared.stmt.ElseNode.TheOpen as layer
 use Rattle.rp_ast.specs.declared.stmt.ElseNode.TheViews.{out-Block, out-BlockArm}
 use Rattle.rp_ast.specs.declared.stmt.ElseNode.TheFolds.{fold-roll-StmtForm, fold-roll-ElseNode, fold_out-Block, fold_out-BlockArm, fold_out-StmtNode}
 use Rattle.rp_grammar.specs.Trees.{BlockTree, StmtTree, StmtForm, ElseTree, BlockArmTree}
-use Rattle.rp_ast.specs.View.{optional, ident_view, type_view, expr_view, access_view, pattern_view, else_of, else_step, stmt_form_step, block_step, block_arm_step, stmt_step, else_view, stmt_form_view, block_view, block_arm_view, stmt_view, stmts_view, block_arms_view, maybe_else_view}
+use Rattle.rp_ast.specs.View.{optional, ident_view, type_view, expr_view, access_view, pattern_view, else_step, stmt_form_step, block_step, block_arm_step, stmt_step, else_view, stmt_form_view, block_view, block_arm_view, stmt_view, stmts_view, block_arms_view, maybe_else_view}
 
 pub stmt_view-parts : (s : StmtNode) → stmt_view s ≡ StmtTree.node s.span (stmt_form_view s.what)
 stmt_view-parts s = fold_out-StmtNode ElseTree StmtForm BlockTree BlockArmTree StmtTree else_step stmt_form_step block_step block_arm_step stmt_step s

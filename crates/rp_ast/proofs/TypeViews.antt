@@ -1,6 +1,5 @@
 -- What each form of a type and of a replicated type is seen as.
 use Rattle.std.proofs.Common.{◌≡◌, ℕ, List, ap, sym, ◌∙◌}
-use Rattle.rp_ast.specs.declared.ident.Ident as code_ident
 use Rattle.rp_ast.specs.declared.ty.TypeNode.{TypeNode}
 use Rattle.rp_ast.specs.declared.ty.TypeForm.TheVariants as made
 use Rattle.rp_ast.specs.declared.ty.TypeForm.TheOpen as layer

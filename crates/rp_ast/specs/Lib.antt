@@ -1,1 +1,4 @@
 pub mod View
+pub mod Printed
+pub mod Alike
+pub mod Rows

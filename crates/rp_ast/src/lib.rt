@@ -1,17 +1,23 @@
 //! The trees of programs, and their printed form.
 #![tactic(auto)]
 
+pub mod build;
 mod crdt;
 mod decl;
 mod expr;
 mod ident;
+pub mod laws;
+mod printer;
 mod stmt;
+#[cfg(test)]
+mod tests;
 mod ty;
 
 pub use crdt::{CrdtForm, CrdtNode, FieldNode};
 pub use decl::{Ast, ConNode, Decl, DeclForm, ProcNode, QueryNode};
 pub use expr::{AccessNode, AccessStep, ExprArm, ExprForm, ExprNode, PatternNode};
 pub use ident::Ident;
+pub use printer::print;
 pub use rp_grammar::{CallWord, CompareOp};
 pub use stmt::{Block, BlockArm, ElseNode, StmtForm, StmtNode};
 pub use ty::{Param, TypeForm, TypeNode};

@@ -1,0 +1,20 @@
+//! The printed form of a program.
+
+mod crdt;
+mod decl;
+mod expr;
+mod stmt;
+mod token;
+mod ty;
+
+pub use decl::print;
+
+/// How an expression stands in what is printed.
+#[derive(Clone, Copy, Debug, PartialEq, Eq)]
+enum Place {
+    /// Nothing beside it could be taken for a part of it.
+    Whole,
+    /// An argument, a key or the body of an arm.
+    Argument,
+    Operand,
+}

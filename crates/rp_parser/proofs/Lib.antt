@@ -1,0 +1,7 @@
+pub mod Steps
+pub mod Moves
+pub mod Lists
+pub mod Chains
+pub mod Spans
+pub mod Readable
+pub mod Whole

@@ -1,0 +1,560 @@
+//! Expressions.
+
+ghost use Rattle.std.specs.Prelude.{List as Items};
+ghost use Rattle.std.specs.Prelude.{◌≡◌, ℕ, suc, pos, neg_ℤ, ◌<◌, ◌≤◌, [], ◌∷◌, ◌++◌, IfOk, length, map, false};
+ghost use Rattle.rp_span.specs.declared.Span.{Span as SpanValue};
+ghost use Rattle.rp_grammar.specs.declared.terminal.Symbol.TheVariants as symbols;
+ghost use Rattle.rp_grammar.specs.Trees.{TypeTree, Ident as IdentTree, ParamTree, ExprTree, ExprForm, ExprArmTree, StepTree, AccessTree};
+ghost use Rattle.rp_grammar.specs.Parts.{Part, part, join as join_spans};
+ghost use Rattle.rp_grammar.specs.Exprs.{quantifier_part};
+ghost use Rattle.rp_ast.specs.View.{ident_view, type_view, param_view, expr_view, expr_arm_view, access_view, step_view};
+ghost use Rattle.rp_tokens.specs.MachineStates.{State, want_prim, want_operand, more_and, more_or, have_bound, in_access};
+ghost use Rattle.rp_tokens.specs.MachineExprs.{want_andx, want_orx, want_expr, want_sum, want_bound, want_closed, want_parens, want_exprs, want_args, want_match, want_expr_arm, want_expr_arms, in_args, called_with};
+ghost use Rattle.rp_tokens.specs.Machine.{bounded};
+ghost use Rattle.rp_parser.specs.Marks.{toks, next_is};
+ghost use Rattle.rp_parser.specs.Reading.{Gives};
+ghost use Rattle.rp_parser.specs.ExprStarts.{quantifier_of, want_comparison};
+ghost use Rattle.rp_parser.specs.Signs.{step_next};
+
+use crate::expr_starts::{Leaf, OperandStart, PrimStart, QuantifierKind, number, operand_first, prim_first};
+use crate::fault::Fault;
+use crate::leaves::{ident, leaf_node, negative, quantified, sum};
+use crate::mark::Marks;
+use crate::next::{join, name, optional, symbol, symbol_within};
+use crate::patterns::read_arm_pattern;
+use crate::signs::{BoundSign, StepSign, and_sign, args_sign, bound_sign, compare_sign, dot_step};
+use crate::signs::{expr_comma, implies_sign, or_sign, step_sign, sum_sign};
+use crate::types::read_type;
+use rp_ast::build::expr;
+use rp_ast::{AccessNode, AccessStep, ExprArm, ExprNode, Ident, Param};
+use rp_grammar::Symbol;
+use rp_span::Span;
+use rp_value::List;
+use std::alloc::Global;
+
+#[cycle(exprs)]
+pub(crate) fn read_expr(
+    alloc: Global,
+    marks: Marks,
+    depth: u32,
+) -> Result<(ExprNode, Span, Marks), Fault>
+    requires { depth ≤ 65 }
+    ensures shallow { IfOk result (λ _. depth ≤ 64) }
+    ensures shorter { IfOk result (λ x. length x.2.now < length marks.now) }
+    ensures no_and { IfOk result (λ x. next_is symbols.And (toks x.2.now) ≡ false) }
+    ensures no_or { IfOk result (λ x. next_is symbols.Or (toks x.2.now) ≡ false) }
+    ensures no_implies { IfOk result (λ x. next_is symbols.Implies (toks x.2.now) ≡ false) }
+    ensures reads { (d : ℕ) → d ≡ depth → (k : Part ExprTree → State)
+        → Gives result (bounded 64 (want_expr d k) (toks marks.now)) (λ x. bounded 64 (k (part (expr_view x.0) x.1)) (toks x.2.now)) }
+{
+    let (left, extent, rest) = read_or(alloc, marks, depth)?;
+    let Some(after) = implies_sign(rest, depth) else {
+        return Ok((left, extent, rest));
+    };
+    let (right, right_extent, end) = read_expr(alloc, after, depth + 1)?;
+    let span = join(extent, right_extent);
+    Ok((expr::implies(alloc, span, left, right)?, span, end))
+}
+
+#[cycle(exprs)]
+fn read_or(
+    alloc: Global,
+    marks: Marks,
+    depth: u32,
+) -> Result<(ExprNode, Span, Marks), Fault>
+    requires { depth ≤ 65 }
+    ensures shallow { IfOk result (λ _. depth ≤ 64) }
+    ensures shorter { IfOk result (λ x. length x.2.now < length marks.now) }
+    ensures no_and { IfOk result (λ x. next_is symbols.And (toks x.2.now) ≡ false) }
+    ensures no_or { IfOk result (λ x. next_is symbols.Or (toks x.2.now) ≡ false) }
+    ensures reads { (d : ℕ) → d ≡ depth → (k : Part ExprTree → State)
+        → Gives result (bounded 64 (want_orx d k) (toks marks.now)) (λ x. bounded 64 (k (part (expr_view x.0) x.1)) (toks x.2.now)) }
+{
+    let (first, first_extent, behind) = read_and(alloc, marks, depth)?;
+    let Some(after) = or_sign(behind, depth) else {
+        return Ok((first, first_extent, behind));
+    };
+    read_or_chain(alloc, first, first_extent, after, depth)
+}
+
+/// The rest of a chain, behind its first member and the operator.
+#[cycle(exprs)]
+fn read_or_chain(
+    alloc: Global,
+    first: ExprNode,
+    first_extent: Span,
+    marks: Marks,
+    depth: u32,
+) -> Result<(ExprNode, Span, Marks), Fault>
+    requires { depth ≤ 64 }
+    ensures shorter { IfOk result (λ x. length x.2.now < length marks.now) }
+    ensures no_and { IfOk result (λ x. next_is symbols.And (toks x.2.now) ≡ false) }
+    ensures no_or { IfOk result (λ x. next_is symbols.Or (toks x.2.now) ≡ false) }
+    ensures reads { (d : ℕ) → d ≡ depth → (k : Part ExprTree → State)
+        → Gives result (bounded 64 (want_andx d (λ f. more_or d (part (expr_view first) first_extent) (f ∷ []) k)) (toks marks.now)) (λ x. bounded 64 (k (part (expr_view x.0) x.1)) (toks x.2.now)) }
+{
+    let (second, second_extent, mut rest) = read_and(alloc, marks, depth)?;
+    let mut extent = join(first_extent, second_extent);
+    let mut members = List::new(alloc);
+    members.push(first)?;
+    members.push(second)?;
+    'members: loop {
+        let Some(after) = or_sign(rest, depth) else {
+            return Ok((expr::or(extent, members), extent, rest));
+        };
+        let (member, member_extent, end) = read_and(alloc, after, depth)?;
+        extent = join(extent, member_extent);
+        members.push(member)?;
+        rest = end;
+    }
+}
+
+#[cycle(exprs)]
+fn read_and(
+    alloc: Global,
+    marks: Marks,
+    depth: u32,
+) -> Result<(ExprNode, Span, Marks), Fault>
+    requires { depth ≤ 65 }
+    ensures shallow { IfOk result (λ _. depth ≤ 64) }
+    ensures shorter { IfOk result (λ x. length x.2.now < length marks.now) }
+    ensures no_and { IfOk result (λ x. next_is symbols.And (toks x.2.now) ≡ false) }
+    ensures reads { (d : ℕ) → d ≡ depth → (k : Part ExprTree → State)
+        → Gives result (bounded 64 (want_andx d k) (toks marks.now)) (λ x. bounded 64 (k (part (expr_view x.0) x.1)) (toks x.2.now)) }
+{
+    let (first, first_extent, behind) = read_operand(alloc, marks, depth)?;
+    let Some(after) = and_sign(behind, depth) else {
+        return Ok((first, first_extent, behind));
+    };
+    read_and_chain(alloc, first, first_extent, after, depth)
+}
+
+/// The rest of a chain, behind its first member and the operator.
+#[cycle(exprs)]
+fn read_and_chain(
+    alloc: Global,
+    first: ExprNode,
+    first_extent: Span,
+    marks: Marks,
+    depth: u32,
+) -> Result<(ExprNode, Span, Marks), Fault>
+    requires { depth ≤ 64 }
+    ensures shorter { IfOk result (λ x. length x.2.now < length marks.now) }
+    ensures no_and { IfOk result (λ x. next_is symbols.And (toks x.2.now) ≡ false) }
+    ensures reads { (d : ℕ) → d ≡ depth → (k : Part ExprTree → State)
+        → Gives result (bounded 64 (want_operand d (λ f. more_and d (part (expr_view first) first_extent) (f ∷ []) k)) (toks marks.now)) (λ x. bounded 64 (k (part (expr_view x.0) x.1)) (toks x.2.now)) }
+{
+    let (second, second_extent, mut rest) = read_operand(alloc, marks, depth)?;
+    let mut extent = join(first_extent, second_extent);
+    let mut members = List::new(alloc);
+    members.push(first)?;
+    members.push(second)?;
+    'members: loop {
+        let Some(after) = and_sign(rest, depth) else {
+            return Ok((expr::and(extent, members), extent, rest));
+        };
+        let (member, member_extent, end) = read_operand(alloc, after, depth)?;
+        extent = join(extent, member_extent);
+        members.push(member)?;
+        rest = end;
+    }
+}
+
+#[cycle(exprs)]
+fn read_operand(
+    alloc: Global,
+    marks: Marks,
+    depth: u32,
+) -> Result<(ExprNode, Span, Marks), Fault>
+    requires { depth ≤ 65 }
+    ensures shallow { IfOk result (λ _. depth ≤ 64) }
+    ensures shorter { IfOk result (λ x. length x.2.now < length marks.now) }
+    ensures reads { (d : ℕ) → d ≡ depth → (k : Part ExprTree → State)
+        → Gives result (bounded 64 (want_operand d k) (toks marks.now)) (λ x. bounded 64 (k (part (expr_view x.0) x.1)) (toks x.2.now)) }
+{
+    let (start, rest) = operand_first(marks, depth)?;
+    match start {
+        OperandStart::Not(span) => {
+            let (operand, extent, end) = read_operand(alloc, rest, depth + 1)?;
+            let span = join(span, extent);
+            Ok((expr::not(alloc, span, operand)?, span, end))
+        }
+        OperandStart::Quantifier(quantifier, span) => {
+            let (name, after) = name(alloc, rest, depth + 1)?;
+            let (node, extent, end) = read_bound(alloc, quantifier, span, name, after, depth + 1)?;
+            Ok((node, extent, end))
+        }
+        OperandStart::Comparison => read_comparison(alloc, rest, depth),
+    }
+}
+
+/// The type of a quantified variable and what follows it, in a node that starts at `start`.
+#[cycle(exprs)]
+fn read_bound(
+    alloc: Global,
+    quantifier: QuantifierKind,
+    start: Span,
+    name: Ident,
+    marks: Marks,
+    depth: u32,
+) -> Result<(ExprNode, Span, Marks), Fault>
+    requires { depth ≤ 65 }
+    ensures shorter { IfOk result (λ x. length x.2.now < length marks.now) }
+    ensures no_and { IfOk result (λ x. next_is symbols.And (toks x.2.now) ≡ false) }
+    ensures no_or { IfOk result (λ x. next_is symbols.Or (toks x.2.now) ≡ false) }
+    ensures no_implies { IfOk result (λ x. next_is symbols.Implies (toks x.2.now) ≡ false) }
+    ensures reads { (d : ℕ) → d ≡ depth → (k : Part ExprTree → State)
+        → Gives result (bounded 64 (want_bound (quantifier_of quantifier) d start (ident_view name) k) (toks marks.now)) (λ x. bounded 64 (k (part (expr_view x.0) x.1)) (toks x.2.now)) }
+{
+    let (_, after) = symbol_within(marks, Symbol::Colon, depth)?;
+    let (ty, after) = read_type(alloc, after, depth)?;
+    let (body, extent, end) = read_scope(alloc, quantifier, after, depth)?;
+    let span = join(start, extent);
+    let variable = Param { name, ty };
+    Ok((quantified(alloc, quantifier, span, variable, body)?, span, end))
+}
+
+/// What follows a quantified variable: a further one, or the body.
+#[cycle(exprs)]
+fn read_scope(
+    alloc: Global,
+    quantifier: QuantifierKind,
+    marks: Marks,
+    depth: u32,
+) -> Result<(ExprNode, Span, Marks), Fault>
+    requires { depth ≤ 64 }
+    ensures shorter { IfOk result (λ x. length x.2.now < length marks.now) }
+    ensures no_and { IfOk result (λ x. next_is symbols.And (toks x.2.now) ≡ false) }
+    ensures no_or { IfOk result (λ x. next_is symbols.Or (toks x.2.now) ≡ false) }
+    ensures no_implies { IfOk result (λ x. next_is symbols.Implies (toks x.2.now) ≡ false) }
+    ensures reads { (d : ℕ) → d ≡ depth → (v : SpanValue) (n : IdentTree) (t : TypeTree) (k : Part ExprTree → State)
+        → Gives result (bounded 64 (have_bound (quantifier_of quantifier) d v n t k) (toks marks.now)) (λ x. bounded 64 (k (quantifier_part (quantifier_of quantifier) v n t (part (expr_view x.0) x.1))) (toks x.2.now)) }
+{
+    let (sign, rest) = bound_sign(marks, depth)?;
+    match sign {
+        BoundSign::Body => read_expr(alloc, rest, depth),
+        BoundSign::Variable => {
+            let (name, after) = name(alloc, rest, depth)?;
+            let start = name.span;
+            read_bound(alloc, quantifier, start, name, after, depth + 1)
+        }
+    }
+}
+
+#[cycle(exprs)]
+fn read_comparison(
+    alloc: Global,
+    marks: Marks,
+    depth: u32,
+) -> Result<(ExprNode, Span, Marks), Fault>
+    requires { depth ≤ 65 }
+    ensures shallow { IfOk result (λ _. depth ≤ 64) }
+    ensures shorter { IfOk result (λ x. length x.2.now < length marks.now) }
+    ensures reads { (d : ℕ) → d ≡ depth → (k : Part ExprTree → State)
+        → Gives result (bounded 64 (want_comparison d k) (toks marks.now)) (λ x. bounded 64 (k (part (expr_view x.0) x.1)) (toks x.2.now)) }
+{
+    let (left, extent, rest) = read_sum(alloc, marks, depth)?;
+    let Some((op, after)) = compare_sign(rest, depth) else {
+        return Ok((left, extent, rest));
+    };
+    let (right, right_extent, end) = read_sum(alloc, after, depth)?;
+    let span = join(extent, right_extent);
+    Ok((expr::compare(alloc, span, op, left, right)?, span, end))
+}
+
+#[cycle(exprs)]
+fn read_sum(
+    alloc: Global,
+    marks: Marks,
+    depth: u32,
+) -> Result<(ExprNode, Span, Marks), Fault>
+    requires { depth ≤ 65 }
+    ensures shallow { IfOk result (λ _. depth ≤ 64) }
+    ensures shorter { IfOk result (λ x. length x.2.now < length marks.now) }
+    ensures reads { (d : ℕ) → d ≡ depth → (k : Part ExprTree → State)
+        → Gives result (bounded 64 (want_sum d k) (toks marks.now)) (λ x. bounded 64 (k (part (expr_view x.0) x.1)) (toks x.2.now)) }
+{
+    let (mut left, mut extent, mut rest) = read_prim(alloc, marks, depth)?;
+    let mut inner = depth;
+    'operators: loop {
+        let Some((sign, after)) = sum_sign(rest, inner) else {
+            return Ok((left, extent, rest));
+        };
+        let (right, right_extent, end) = read_prim(alloc, after, inner + 1)?;
+        inner += 1;
+        extent = join(extent, right_extent);
+        left = sum(alloc, extent, sign, left, right)?;
+        rest = end;
+    }
+}
+
+/// An operand of a sum.
+#[cycle(exprs)]
+fn read_prim(
+    alloc: Global,
+    marks: Marks,
+    depth: u32,
+) -> Result<(ExprNode, Span, Marks), Fault>
+    requires { depth ≤ 65 }
+    ensures shallow { IfOk result (λ _. depth ≤ 64) }
+    ensures shorter { IfOk result (λ x. length x.2.now < length marks.now) }
+    ensures reads { (d : ℕ) → d ≡ depth → (k : Part ExprTree → State)
+        → Gives result (bounded 64 (want_prim d k) (toks marks.now)) (λ x. bounded 64 (k (part (expr_view x.0) x.1)) (toks x.2.now)) }
+{
+    let (start, start_span, rest) = prim_first(marks, depth)?;
+    match start {
+        PrimStart::Leaf(leaf) => Ok((leaf_node(alloc, start_span, leaf)?, start_span, rest)),
+        PrimStart::Minus => {
+            let (value, value_span, end) = number(rest, depth)?;
+            let span = join(start_span, value_span);
+            Ok((negative(span, value), span, end))
+        }
+        PrimStart::Some => {
+            let (_, inside) = symbol(rest, Symbol::OpenParen, depth)?;
+            let (value, _extent, close, end) = read_closed(alloc, inside, depth)?;
+            let span = join(start_span, close);
+            Ok((expr::some_of(alloc, span, value)?, span, end))
+        }
+        PrimStart::Call(word) => {
+            let (_, inside) = symbol(rest, Symbol::OpenParen, depth)?;
+            let (args, close, end) = read_args(alloc, inside, depth)?;
+            let span = join(start_span, close);
+            Ok((expr::call(span, word, args), span, end))
+        }
+        PrimStart::Match => read_match(alloc, start_span, rest, depth),
+        PrimStart::Name(bytes) => {
+            let root = ident(alloc, start_span, bytes)?;
+            let (access, extent, end) = read_access(alloc, root, rest, depth)?;
+            Ok((expr::access(extent, access), extent, end))
+        }
+        PrimStart::Paren => {
+            let (inside, _extent, close, end) = read_closed(alloc, rest, depth)?;
+            let span = join(start_span, close);
+            Ok((inside, span, end))
+        }
+    }
+}
+
+/// An expression and its closing parenthesis, behind the opening one; with the extent of the
+/// expression and the place of the parenthesis.
+#[cycle(exprs)]
+pub(crate) fn read_closed(
+    alloc: Global,
+    marks: Marks,
+    depth: u32,
+) -> Result<(ExprNode, Span, Span, Marks), Fault>
+    requires { depth ≤ 64 }
+    ensures shorter { IfOk result (λ x. length x.3.now < length marks.now) }
+    ensures reads { (d : ℕ) → d ≡ depth → (k : Part ExprTree → SpanValue → State)
+        → Gives result (bounded 64 (want_closed d k) (toks marks.now)) (λ x. bounded 64 (k (part (expr_view x.0) x.1) x.2) (toks x.3.now)) }
+{
+    let (inside, extent, after) = read_expr(alloc, marks, depth + 1)?;
+    let (close, end) = symbol(after, Symbol::CloseParen, depth)?;
+    Ok((inside, extent, close, end))
+}
+
+/// Expressions with commas between them, one at least.
+#[cycle(exprs)]
+fn read_exprs(
+    alloc: Global,
+    marks: Marks,
+    depth: u32,
+) -> Result<(List<ExprNode>, Marks), Fault>
+    requires { depth ≤ 65 }
+    ensures shallow { IfOk result (λ _. depth ≤ 64) }
+    ensures shorter { IfOk result (λ x. length x.1.now < length marks.now) }
+    ensures reads { (d : ℕ) → d ≡ depth → (k : Items ExprTree → State)
+        → Gives result (bounded 64 (want_exprs d k) (toks marks.now)) (λ x. bounded 64 (k (map expr_view x.0)) (toks x.1.now)) }
+{
+    let mut members = List::new(alloc);
+    let (first, _extent, mut rest) = read_expr(alloc, marks, depth)?;
+    members.push(first)?;
+    'members: loop {
+        let Some(after) = expr_comma(rest, depth) else {
+            return Ok((members, rest));
+        };
+        let (member, _extent, end) = read_expr(alloc, after, depth)?;
+        members.push(member)?;
+        rest = end;
+    }
+}
+
+/// Expressions with commas between them, one at least, and the closing parenthesis.
+#[cycle(exprs)]
+fn read_args(
+    alloc: Global,
+    marks: Marks,
+    depth: u32,
+) -> Result<(List<ExprNode>, Span, Marks), Fault>
+    requires { depth ≤ 64 }
+    ensures shorter { IfOk result (λ x. length x.2.now < length marks.now) }
+    ensures reads { (d : ℕ) → d ≡ depth → (k : Items ExprTree → SpanValue → State)
+        → Gives result (bounded 64 (want_args d k) (toks marks.now)) (λ x. bounded 64 (k (map expr_view x.0) x.1) (toks x.2.now)) }
+{
+    let (args, after) = read_exprs(alloc, marks, depth + 1)?;
+    let (close, end) = symbol(after, Symbol::CloseParen, depth)?;
+    Ok((args, close, end))
+}
+
+/// What follows the word `match` at `start`.
+#[cycle(exprs)]
+fn read_match(
+    alloc: Global,
+    start: Span,
+    marks: Marks,
+    depth: u32,
+) -> Result<(ExprNode, Span, Marks), Fault>
+    requires { depth ≤ 64 }
+    ensures shorter { IfOk result (λ x. length x.2.now < length marks.now) }
+    ensures reads { (d : ℕ) → d ≡ depth → (k : Part ExprTree → State)
+        → Gives result (bounded 64 (want_match d start k) (toks marks.now)) (λ x. bounded 64 (k (part (expr_view x.0) x.1)) (toks x.2.now)) }
+{
+    let (_, inside) = symbol(marks, Symbol::OpenParen, depth)?;
+    let (value, _extent, _close, after) = read_closed(alloc, inside, depth)?;
+    let (_, inside) = symbol(after, Symbol::OpenBrace, depth)?;
+    let (arms, after) = read_arms(alloc, inside, depth + 1)?;
+    let (close, end) = symbol(after, Symbol::CloseBrace, depth)?;
+    let span = join(start, close);
+    Ok((expr::match_(alloc, span, value, arms)?, span, end))
+}
+
+/// Arms with commas between them, one at least.
+#[cycle(exprs)]
+fn read_arms(
+    alloc: Global,
+    marks: Marks,
+    depth: u32,
+) -> Result<(List<ExprArm>, Marks), Fault>
+    requires { depth ≤ 65 }
+    ensures shallow { IfOk result (λ _. depth ≤ 64) }
+    ensures shorter { IfOk result (λ x. length x.1.now < length marks.now) }
+    ensures reads { (d : ℕ) → d ≡ depth → (k : Items ExprArmTree → State)
+        → Gives result (bounded 64 (want_expr_arms d k) (toks marks.now)) (λ x. bounded 64 (k (map expr_arm_view x.0)) (toks x.1.now)) }
+{
+    let mut arms = List::new(alloc);
+    let (first, mut rest) = read_arm(alloc, marks, depth)?;
+    arms.push(first)?;
+    'arms: loop {
+        let Some(after) = expr_comma(rest, depth) else {
+            return Ok((arms, rest));
+        };
+        let (arm, end) = read_arm(alloc, after, depth)?;
+        arms.push(arm)?;
+        rest = end;
+    }
+}
+
+/// A pattern and its expression.
+#[cycle(exprs)]
+fn read_arm(
+    alloc: Global,
+    marks: Marks,
+    depth: u32,
+) -> Result<(ExprArm, Marks), Fault>
+    requires { depth ≤ 65 }
+    ensures shallow { IfOk result (λ _. depth ≤ 64) }
+    ensures shorter { IfOk result (λ x. length x.1.now < length marks.now) }
+    ensures reads { (d : ℕ) → d ≡ depth → (k : ExprArmTree → State)
+        → Gives result (bounded 64 (want_expr_arm d k) (toks marks.now)) (λ x. bounded 64 (k (expr_arm_view x.0)) (toks x.1.now)) }
+{
+    let (pattern, after) = read_arm_pattern(alloc, marks, depth)?;
+    let (body, _extent, end) = read_expr(alloc, after, depth)?;
+    Ok((expr::arm(pattern, body), end))
+}
+
+/// The steps and the arguments of an access, behind its root.
+#[cycle(exprs)]
+pub(crate) fn read_access(
+    alloc: Global,
+    root: Ident,
+    marks: Marks,
+    depth: u32,
+) -> Result<(AccessNode, Span, Marks), Fault>
+    requires { depth ≤ 64 }
+    ensures no_longer { IfOk result (λ x. length x.2.now ≤ length marks.now) }
+    ensures reads { (d : ℕ) → d ≡ depth → (k : Part AccessTree → State)
+        → Gives result (bounded 64 (in_access d (ident_view root) [] root.span k) (toks marks.now)) (λ x. bounded 64 (k (part (access_view x.0) x.1)) (toks x.2.now)) }
+{
+    let (steps, extent, after) = read_steps(alloc, root.span, marks, depth)?;
+    let Some(inside) = args_sign(after, depth) else {
+        return Ok((expr::path(root, steps, None), extent, after));
+    };
+    let (args, close, end) = read_access_args(alloc, inside, depth)?;
+    let span = join(extent, close);
+    let access = expr::path(root, steps, Some(args));
+    Ok((access, span, end))
+}
+
+/// The steps of an access, behind its root; with the extent from the root on.
+#[cycle(exprs)]
+fn read_steps(
+    alloc: Global,
+    root_span: Span,
+    marks: Marks,
+    depth: u32,
+) -> Result<(List<AccessStep>, Span, Marks), Fault>
+    requires { depth ≤ 64 }
+    ensures no_longer { IfOk result (λ x. length x.2.now ≤ length marks.now) }
+    ensures no_dot { IfOk result (λ x. next_is symbols.Dot (toks x.2.now) ≡ false) }
+    ensures no_key { IfOk result (λ x. next_is symbols.OpenBracket (toks x.2.now) ≡ false) }
+    ensures reads { (d : ℕ) → d ≡ depth → (n : IdentTree) (k : Part AccessTree → State)
+        → Gives result (bounded 64 (in_access d n [] root_span k) (toks marks.now)) (λ x. bounded 64 (in_access d n (map step_view x.0) x.1 k) (toks x.2.now)) }
+{
+    let mut steps = List::new(alloc);
+    let Some((sign, after)) = step_sign(marks, depth) else {
+        return Ok((steps, root_span, marks));
+    };
+    let (first, first_end, mut rest) = read_step(alloc, sign, after, depth)?;
+    let mut extent = join(root_span, first_end);
+    steps.push(first)?;
+    'steps: loop {
+        let Some((sign, after)) = step_sign(rest, depth) else {
+            return Ok((steps, extent, rest));
+        };
+        let (step, step_end, end) = read_step(alloc, sign, after, depth)?;
+        extent = join(extent, step_end);
+        steps.push(step)?;
+        rest = end;
+    }
+}
+
+/// The rest of one step of an access.
+#[cycle(exprs)]
+fn read_step(
+    alloc: Global,
+    sign: StepSign,
+    marks: Marks,
+    depth: u32,
+) -> Result<(AccessStep, Span, Marks), Fault>
+    requires { depth ≤ 64 }
+    ensures shorter { IfOk result (λ x. length x.2.now < length marks.now) }
+    ensures reads { (d : ℕ) → d ≡ depth → (n : IdentTree) (xs : Items StepTree) (v : SpanValue) (k : Part AccessTree → State)
+        → Gives result (bounded 64 (step_next d n xs v k sign) (toks marks.now)) (λ x. bounded 64 (in_access d n (xs ++ step_view x.0 ∷ []) (join_spans v x.1) k) (toks x.2.now)) }
+{
+    match sign {
+        StepSign::Dot => dot_step(alloc, marks, depth),
+        StepSign::Key => {
+            let (key, _extent, after) = read_expr(alloc, marks, depth + 1)?;
+            let (close, end) = symbol(after, Symbol::CloseBracket, depth)?;
+            Ok((expr::key(key), close, end))
+        }
+    }
+}
+
+/// The arguments of an access, behind the opening parenthesis.
+#[cycle(exprs)]
+fn read_access_args(
+    alloc: Global,
+    marks: Marks,
+    depth: u32,
+) -> Result<(List<ExprNode>, Span, Marks), Fault>
+    requires { depth ≤ 64 }
+    ensures shorter { IfOk result (λ x. length x.2.now < length marks.now) }
+    ensures reads { (d : ℕ) → d ≡ depth → (n : IdentTree) (xs : Items StepTree) (v : SpanValue) (k : Part AccessTree → State)
+        → Gives result (bounded 64 (in_args d n xs v k) (toks marks.now)) (λ x. bounded 64 (k (called_with n xs v (map expr_view x.0) x.1)) (toks x.2.now)) }
+{
+    if let Some((close, end)) = optional(marks, Symbol::CloseParen, depth) {
+        return Ok((List::new(alloc), close, end));
+    }
+    read_args(alloc, marks, depth)
+}

@@ -1,0 +1,123 @@
+//! What the first token of a statement or of an arm begins.
+
+ghost use Rattle.std.specs.Prelude.{List as Items};
+ghost use Rattle.std.specs.Prelude.{◌≡◌, ℕ, suc, ◌<◌, ◌≤◌, [], ◌∷◌, ◌++◌, IfOk, IfSome, MatchOption, Some, None, length};
+ghost use Rattle.rp_span.specs.declared.Span.{Span as SpanValue};
+ghost use Rattle.rp_grammar.specs.Trees.{ident, ExprTree, BlockTree, StmtTree, BlockArmTree};
+ghost use Rattle.rp_tokens.specs.MachineStates.{State, to, in_stmts, in_block_arms, more_if};
+ghost use Rattle.rp_tokens.specs.MachineStmts.{stmt_step, stmt_word as stmt_word_step, want_else, alone};
+ghost use Rattle.rp_tokens.specs.Machine.{bounded};
+ghost use Rattle.rp_parser.specs.Marks.{terminal_of, toks};
+ghost use Rattle.rp_parser.specs.Reading.{Gives, Moves};
+ghost use Rattle.rp_parser.specs.Blocks.{in_arm};
+ghost use Rattle.rp_parser.specs.StmtStarts.{stmt_next, else_next, IsWithin};
+
+use crate::fault::Fault;
+use crate::mark::{Kind, Marks};
+use crate::next::{MAX_DEPTH, word_behind};
+use crate::patterns::constructor;
+use rp_grammar::Word;
+use rp_span::Span;
+
+/// What a statement begins with.
+#[derive(Clone, Copy)]
+pub(crate) enum StmtStart<'a> {
+    Name(&'a [u8]),
+    Var,
+    If,
+    Match,
+    Atomic,
+    Assert,
+    Return,
+}
+
+fn stmt_word<'a>(word: Word) -> Option<StmtStart<'a>>
+    ensures { MatchOption result
+        ((d : ℕ) (k : StmtTree → State) (s : SpanValue) → stmt_word_step d k word s ≡ None)
+        (λ t. (d : ℕ) (k : StmtTree → State) (s : SpanValue) → stmt_word_step d k word s ≡ Some (to d (stmt_next d k s t))) }
+{
+    match word {
+        Word::Var => Some(StmtStart::Var),
+        Word::If => Some(StmtStart::If),
+        Word::Match => Some(StmtStart::Match),
+        Word::Atomic => Some(StmtStart::Atomic),
+        Word::Assert => Some(StmtStart::Assert),
+        Word::Return => Some(StmtStart::Return),
+        _ => None,
+    }
+}
+
+fn stmt_start(kind: Kind) -> Option<StmtStart>
+    ensures { MatchOption result
+        ((d : ℕ) (k : StmtTree → State) (s : SpanValue) → stmt_step d k (terminal_of kind.entry) s ≡ None)
+        (λ t. (d : ℕ) (k : StmtTree → State) (s : SpanValue) → stmt_step d k (terminal_of kind.entry) s ≡ Some (to d (stmt_next d k s t))) }
+{
+    match kind {
+        Kind::Name(bytes) => Some(StmtStart::Name(bytes)),
+        Kind::Word(word) => stmt_word(word),
+        _ => None,
+    }
+}
+
+/// The first token of a statement, if one is next.
+pub(crate) fn stmt_sign(marks: Marks) -> Option<(StmtStart, Span, Marks)>
+    ensures shorter { IfSome result (λ x. length marks.now ≡ suc (length x.2.now)) }
+    ensures reads { (d : ℕ) (xs : Items StmtTree) (k : Items StmtTree → State)
+        → MatchOption result
+            (bounded 64 (in_stmts d xs k) (toks marks.now) ≡ bounded 64 (k xs) (toks marks.now))
+            (λ x. Moves d (in_stmts d xs k) (toks marks.now) (stmt_next d (λ y. in_stmts d (xs ++ y ∷ []) k) x.1 x.0) (toks x.2.now)) }
+{
+    let (first, rest) = marks.split_first()?;
+    let start = stmt_start(first.kind)?;
+    Some((start, first.span, rest))
+}
+
+/// The constructor of an arm's pattern, if one is next.
+pub(crate) fn arm_sign(marks: Marks) -> Option<(&[u8], Span, Marks)>
+    ensures shorter { IfSome result (λ x. length marks.now ≡ suc (length x.2.now)) }
+    ensures reads { (d : ℕ) (as_ : Items BlockArmTree) (k : Items BlockArmTree → State)
+        → MatchOption result
+            (bounded 64 (in_block_arms d as_ k) (toks marks.now) ≡ bounded 64 (k as_) (toks marks.now))
+            (λ x. Moves d (in_block_arms d as_ k) (toks marks.now) (in_arm d (ident x.0.now x.1) (λ a. in_block_arms d (as_ ++ a ∷ []) k)) (toks x.2.now)) }
+{
+    let (first, rest) = marks.split_first()?;
+    let con = constructor(first.kind)?;
+    Some((con, first.span, rest))
+}
+
+/// What follows the word `else`, if that is next.
+pub(crate) fn else_sign(marks: Marks, depth: u32) -> Option<Marks>
+    requires { depth ≤ 64 }
+    ensures shorter { IfSome result (λ rest. length rest.now < length marks.now) }
+    ensures reads { (d : ℕ) → d ≡ depth → (v : SpanValue) (e : ExprTree) (b : BlockTree) (k : StmtTree → State)
+        → MatchOption result
+            (bounded 64 (more_if d v e b k) (toks marks.now) ≡ bounded 64 (k (alone v e b)) (toks marks.now))
+            (λ rest. bounded 64 (more_if d v e b k) (toks marks.now) ≡ bounded 64 (want_else d v e b k) (toks rest.now)) }
+{
+    let (_, rest) = word_behind(marks, Word::Else)?;
+    Some(rest)
+}
+
+/// What stands behind an `else`.
+#[derive(Clone, Copy)]
+pub(crate) enum ElseStart {
+    If(Span),
+    Block,
+}
+
+/// The word `if` behind an `else`, if it is next.
+pub(crate) fn else_first(marks: Marks, depth: u32) -> Result<(ElseStart, Marks), Fault>
+    requires { depth ≤ 64 }
+    ensures within { IfOk result (λ x. IsWithin depth x.0) }
+    ensures no_longer { IfOk result (λ x. length x.1.now ≤ length marks.now) }
+    ensures reads { (d : ℕ) → d ≡ depth → (v : SpanValue) (e : ExprTree) (b : BlockTree) (k : StmtTree → State)
+        → Gives result (bounded 64 (want_else d v e b k) (toks marks.now)) (λ x. bounded 64 (else_next d v e b k x.0) (toks x.1.now)) }
+{
+    let Some((span, rest)) = word_behind(marks, Word::If) else {
+        return Ok((ElseStart::Block, marks));
+    };
+    if depth >= MAX_DEPTH {
+        return Err(Fault::TooDeep(marks.len()));
+    }
+    Ok((ElseStart::If(span), rest))
+}
