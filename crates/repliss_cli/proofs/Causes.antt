@@ -1,15 +1,15 @@
 -- Causes of reports, from what was read.
-use Rattle.std.proofs.Common.{◌≡◌, ℕ, ◌+◌, ◌<◌, ◌≤◌, List, [], length, refl, sym, subst, arith, ◌⊎◌, inl, inr, replicate}
+use Rattle.std.proofs.Common.{◌≡◌, ℕ, ◌+◌, ◌<◌, List, [], length, refl, sym, subst, arith, replicate}
 use Rattle.std.specs.declared.option.Option.{Option}
 use Rattle.std.specs.declared.option.Option.TheVariants.{None, Some}
 use Rattle.std.specs.Prelude.{IfSome}
 use Rattle.std.proofs.lemmas.List.{length-replicate}
-use Rattle.std.proofs.Math.Decide.{dec_le}
 use Rattle.rp_io.specs.Files.{Contents, content_of}
 use Rattle.repliss_cli.specs.declared.report.Report.{Report}
-use Rattle.repliss_cli.specs.declared.report.Report.TheVariants.{Verified, Unproved, Usage, ProgramBytes, NotYet}
+use Rattle.repliss_cli.specs.declared.report.Report.TheVariants.{Verified, Unproved, Usage, ProgramBytes, Lex, Syntax, Depth, NotYet}
 use Rattle.repliss_cli.specs.Words.{Words, named}
 use Rattle.repliss_cli.specs.Answers.{OnContent, OnName, IsReportOf, HasCause}
+use Rattle.repliss_cli.proofs.Reports.{some_report}
 
 on_name : (words : Words) (told : Option Contents) (name : List ℕ) (P : List ℕ → Type 0) → named words ≡ Some name → OnContent (content_of told name) P → OnName (named words) told P
 on_name words told name P e h = subst (λ n. OnName n told P) (sym e) h
@@ -25,6 +25,9 @@ content_cause words told name content (Verified count) e same h = on_name words 
 content_cause words told name content (Unproved count lines) e same h = on_name words told name _ e (on_content (content_of told name) content _ same h)
 content_cause words told name content Usage e same h = absurd h
 content_cause words told name content ProgramBytes e same h = on_name words told name _ e (on_content (content_of told name) content _ same h)
+content_cause words told name content (Lex fault pos) e same h = on_name words told name _ e (on_content (content_of told name) content _ same h)
+content_cause words told name content (Syntax pos) e same h = on_name words told name _ e (on_content (content_of told name) content _ same h)
+content_cause words told name content Depth e same h = on_name words told name _ e (on_content (content_of told name) content _ same h)
 content_cause words told name content NotYet e same h = on_name words told name _ e (on_content (content_of told name) content _ same h)
 
 -- some bytes are longer
@@ -39,18 +42,13 @@ pub too_long_cause : (words : Words) (told : Option Contents) (name : List ℕ)
     → named words ≡ Some name → IfSome (content_of told name) (λ c. 262144 < length c) → HasCause words told ProgramBytes
 too_long_cause words told name e h = on_name words told name _ e (too_long 262144 (content_of told name) h)
 
-short_or_long : (m n : ℕ) → (n < m) ⊎ (m ≤ n)
-short_or_long m n = elim (dec_le m n) [ yes short ↦ inr short | no long ↦ inl (omega (arith, long)) ]
-
 -- some report always has its cause
-some_of_content : (words : Words) (told : Option Contents) (name content : List ℕ) → named words ≡ Some name → IfSome (content_of told name) (λ c. content ≡ c)
-    → (262144 < length content) ⊎ (length content ≤ 262144) → (report : Report) × HasCause words told report
-some_of_content words told name content e same (inl long) = (ProgramBytes, content_cause words told name content ProgramBytes e same long)
-some_of_content words told name content e same (inr short) = (NotYet, content_cause words told name content NotYet e same short)
+some_of_content : (words : Words) (told : Option Contents) (name content : List ℕ) → named words ≡ Some name → IfSome (content_of told name) (λ c. content ≡ c) → (report : Report) × HasCause words told report
+some_of_content words told name content e same = let (report, is) = some_report content in (report, content_cause words told name content report e same is)
 
 some_found : (words : Words) (told : Option Contents) (name : List ℕ) → named words ≡ Some name → (found : Option (List ℕ)) → content_of told name ≡ found → (report : Report) × HasCause words told report
-some_found words told name e None is = some_of_content words told name [] e (subst (λ o. IfSome o (λ c. [] ≡ c)) (sym is) tt) (inr (omega arith))
-some_found words told name e (Some content) is = some_of_content words told name content e (subst (λ o. IfSome o (λ c. content ≡ c)) (sym is) refl) (short_or_long (length content) 262144)
+some_found words told name e None is = some_of_content words told name [] e (subst (λ o. IfSome o (λ c. [] ≡ c)) (sym is) tt)
+some_found words told name e (Some content) is = some_of_content words told name content e (subst (λ o. IfSome o (λ c. content ≡ c)) (sym is) refl)
 
 pub some_cause : (words : Words) (told : Option Contents) (name : List ℕ) → named words ≡ Some name → (report : Report) × HasCause words told report
 some_cause words told name e = some_found words told name e (content_of told name) refl

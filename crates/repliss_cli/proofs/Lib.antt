@@ -1,4 +1,10 @@
 pub mod Growing
-pub mod Causes
-pub mod Putting
+pub mod Readings
 pub mod Named
+pub mod OneReport
+pub mod SomeReport
+pub mod Reports
+pub mod Refused
+pub mod Causes
+pub mod Exactly
+pub mod Putting

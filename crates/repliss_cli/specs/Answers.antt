@@ -1,17 +1,23 @@
 -- When each answer of the program may come, and what is put.
-use Rattle.std.specs.Prelude.{◌≡◌, ◌≢◌, ℕ, ◌+◌, ◌<◌, ◌≤◌, List, [], ◌∷◌, length, Option, IfSome, slice_get}
+use Rattle.std.specs.Prelude.{◌≡◌, ◌≢◌, ℕ, ◌+◌, ◌<◌, ◌≤◌, List, [], ◌∷◌, length, Option, IfSome, IsSome, slice_get}
 use Rattle.std.specs.Option.{option_map_or}
 use Rattle.std.specs.declared.option.Option.TheVariants.{None, Some}
 use Rattle.rp_lang.specs.Programs.{Prog}
 use Rattle.rp_io.specs.Files.{Contents, content_of}
 use Rattle.rp_io.specs.Sinks.{Puts, PutsPrefix}
+use Rattle.rp_grammar.specs.declared.LexFault.{LexFault}
+use Rattle.rp_grammar.specs.Lexed.{Faulty}
+use Rattle.rp_grammar.specs.Trees.{DeclTree}
+use Rattle.rp_grammar.specs.Texts.{IsTextWithin, IsBadAt, IsTooDeepAt}
 use Rattle.event_machine.specs.Runs.{IsSafe}
+use Rattle.rp_span.specs.declared.Pos.{Pos}
 use Rattle.rp_span.specs.Places.{place_of}
 use Rattle.event_machine.specs.Goals.{Goal, goals, path, IsFalseGoal}
 use Rattle.repliss_cli.specs.declared.report.GoalLine.{GoalLine}
 use Rattle.repliss_cli.specs.declared.report.Report.{Report}
-use Rattle.repliss_cli.specs.declared.report.Report.TheVariants.{Verified, Unproved, Usage, ProgramBytes, NotYet}
+use Rattle.repliss_cli.specs.declared.report.Report.TheVariants.{Verified, Unproved, Usage, ProgramBytes, Lex, Syntax, Depth, NotYet}
 use Rattle.repliss_cli.specs.declared.report.Status.{Status}
+use Rattle.repliss_cli.specs.declared.report.Status.TheVariants.{ReadFault, WriteFault, NoMemory}
 use Rattle.repliss_cli.specs.Texts.{report_text, status_of}
 use Rattle.repliss_cli.specs.Words.{Words, named}
 use Rattle.repliss_cli.specs.FirstText.{IsFirstText}
@@ -49,6 +55,33 @@ pub record IsUnproved (content : List ℕ) (count : ℕ) (lines : List GoalLine)
   pub some : lines ≢ []
   pub counts : count ≡ length (goals program)
 
+-- The first fault among the tokens of the bytes is of this kind, and stands there.
+pub record IsLexFault (content : List ℕ) (fault : LexFault) (pos : Pos) : Type 0 where
+  pub short : length content ≤ 262144
+  pub at : ℕ
+  pub faulty : Faulty 0 content at fault
+  pub stands : pos ≡ place_of content at
+
+-- There stands the first token that can't follow in a program, and no earlier one is nested deeper than 64.
+pub record IsSyntaxFault (content : List ℕ) (pos : Pos) : Type 0 where
+  pub short : length content ≤ 262144
+  pub at : ℕ
+  pub bad : IsBadAt 64 content at
+  pub stands : pos ≡ place_of content at
+
+-- The bytes up to some token begin a program, and that token is the first that is nested deeper than 64.
+pub record IsTooDeepText (content : List ℕ) : Type 0 where
+  pub short : length content ≤ 262144
+  pub at : ℕ
+  pub deep : IsTooDeepAt 64 content at
+
+-- The bytes are a program's text within the nestings, and not of the first form.
+pub record IsOtherText (content : List ℕ) : Type 0 where
+  pub short : length content ≤ 262144
+  pub tree : List DeclTree
+  pub text : IsTextWithin 64 content tree
+  pub other : (p : Prog) → IsFirstText content p → ⊥
+
 -- the content of the named file is such: that which the files tell, or, where they don't, some content
 abbrev pub OnContent : Option (List ℕ) → (List ℕ → Type 0) → Type 0
 OnContent None P = (content : List ℕ) × P content
@@ -64,14 +97,28 @@ IsReportOf content (Verified count) = IsVerified content count
 IsReportOf content (Unproved count lines) = IsUnproved content count lines
 IsReportOf content Usage = ⊥
 IsReportOf content ProgramBytes = 262144 < length content
-IsReportOf content NotYet = length content ≤ 262144
+IsReportOf content (Lex fault pos) = IsLexFault content fault pos
+IsReportOf content (Syntax pos) = IsSyntaxFault content pos
+IsReportOf content Depth = IsTooDeepText content
+IsReportOf content NotYet = IsOtherText content
 
 -- The report's cause stands: other words than `verify FILE`, or the content of the file.
 abbrev pub HasCause : Words → Option Contents → Report → Type 0
 HasCause words told Usage = named words ≡ None
 HasCause words told report = OnName (named words) told (λ content. IsReportOf content report)
 
+-- The words name no file, or one whose content the files tell.
+abbrev pub AreTold : Words → Option Contents → Type 0
+AreTold words told = IfSome (named words) (λ name. IsSome (content_of told name))
+
 -- ---- what is put
+
+-- What is answered and put is this report, unless a file or the sink failed or memory ran out.
+abbrev pub Tells : Report → Status → Option (List ℕ) → Option (List ℕ) → Type 0
+Tells report ReadFault old new = Unit {0}
+Tells report WriteFault old new = Unit {0}
+Tells report NoMemory old new = Unit {0}
+Tells report status old new = (status ≡ status_of report) × Puts old new (report_text report)
 
 -- The bytes put are those of a report whose cause stands, and the answer is its status.
 pub record IsAnswer (words : Words) (told : Option Contents) (status : Status) (old new : Option (List ℕ)) : Type 0 where

@@ -1,11 +1,13 @@
 -- The text of a report.
 use Rattle.std.specs.Prelude.{ℕ, ◌==◌, length, List, [], ◌∷◌, ◌++◌, flat_map, codes, decimal, if◌then◌else◌}
 use Rattle.rp_span.specs.declared.Pos.{Pos}
+use Rattle.rp_grammar.specs.declared.LexFault.{LexFault}
+use Rattle.rp_grammar.specs.declared.LexFault.TheVariants.{BadByte, OpenString, NumberRange}
 use Rattle.repliss_cli.specs.declared.report.GoalLine.{GoalLine}
 use Rattle.repliss_cli.specs.declared.report.Status.{Status}
 use Rattle.repliss_cli.specs.declared.report.Status.TheVariants.{Fine, Found, Refused, ReadFault, WriteFault, NoMemory}
 use Rattle.repliss_cli.specs.declared.report.Report.{Report}
-use Rattle.repliss_cli.specs.declared.report.Report.TheVariants.{Verified, Unproved, Usage, ProgramBytes, NotYet}
+use Rattle.repliss_cli.specs.declared.report.Report.TheVariants.{Verified, Unproved, Usage, ProgramBytes, Lex, Syntax, Depth, NotYet}
 
 -- the end of a line that counts goals: `s` is left out after 1 alone
 abbrev pub goals_end : ℕ → List ℕ
@@ -31,12 +33,20 @@ verified_line goals = codes "verified: " ++ (decimal goals ++ goals_end goals)
 abbrev pub unproved_line : ℕ → ℕ → List ℕ
 unproved_line unproved goals = codes "unproved: " ++ (decimal unproved ++ (codes " of " ++ (decimal goals ++ goals_end goals)))
 
+abbrev pub fault_name : LexFault → List ℕ
+fault_name BadByte = codes "bad byte"
+fault_name OpenString = codes "open string"
+fault_name NumberRange = codes "number range"
+
 -- the bytes of a report
 abbrev pub report_text : Report → List ℕ
 report_text (Verified goals) = verified_line goals
 report_text (Unproved goals list) = unproved_line (length list) goals ++ flat_map goal_line list
 report_text Usage = codes "refused: usage\n" ++ codes "usage: repliss verify FILE\n"
 report_text ProgramBytes = codes "refused: limit program bytes 262144\n"
+report_text (Lex fault pos) = codes "refused: lex " ++ (fault_name fault ++ place_text pos)
+report_text (Syntax pos) = codes "refused: syntax" ++ place_text pos
+report_text Depth = codes "refused: limit depth 64\n"
 report_text NotYet = codes "refused: not yet\n"
 
 -- how the command ends that puts it
@@ -45,6 +55,9 @@ status_of (Verified goals) = Fine
 status_of (Unproved goals list) = Found
 status_of Usage = Refused
 status_of ProgramBytes = Refused
+status_of (Lex fault pos) = Refused
+status_of (Syntax pos) = Refused
+status_of Depth = Refused
 status_of NotYet = Refused
 
 -- the number with which the process ends

@@ -1,18 +1,26 @@
 // The report on a program's text.
 ghost use Rattle.std.specs.Prelude.{◌≡◌, ◌+◌, ◌∷◌, [], ◌++◌, ◌≤◌, IfOk, OnOk, length, map, slice_get};
 ghost use Rattle.std.specs.Option.{option_map_or};
+ghost use Rattle.std.specs.Prelude.{List as Items};
 ghost use Rattle.rp_span.specs.Places.{place_of};
 ghost use Rattle.rp_lang.specs.ProgramView.{program_view};
 ghost use Rattle.repliss_cli.specs.Answers.{IsReportOf, name_at};
-ghost use Rattle.rp_first.specs.ReadOf.{IsReadOf};
+ghost use Rattle.rp_grammar.specs.Lexed.{Lexed};
+ghost use Rattle.rp_grammar.specs.Trees.{DeclTree};
+ghost use Rattle.rp_grammar.specs.Texts.{IsTextWithin};
+ghost use Rattle.rp_ast.specs.View.{ast_view};
+ghost use Rattle.rp_types.specs.FirstProgram.{IsProgramOf};
 ghost use Rattle.repliss_cli.specs.Lines.{line_for};
 
 use crate::report::{GoalLine, Report};
 use event_machine::false_by_trying;
-use rp_first::{ReadError, read_program};
+use rp_ast::Ast;
 use rp_lang::Program;
+use rp_lexer::{LexErr, Token, lex};
+use rp_parser::{ParseErr, parse};
 use rp_span::{Pos, Text, line_of};
-use rp_value::{List, Memory, copy_bytes};
+use rp_types::first_program;
+use rp_value::{List, Memory, copy_bytes, copy_list};
 use rp_verify::{GoalErr, Unproved, Verdict, verify};
 use std::alloc::Global;
 
@@ -42,17 +50,6 @@ fn name_of(program: &Program, proc: Option<u32>) -> &[u8]
     }
 }
 
-/// An equal path.
-fn copy_path(alloc: Global, path: &[u32]) -> Result<List<u32>, Memory>
-    ensures { IfOk result (λ copy. copy ≡ path.now) }
-{
-    let mut copy = List::new(alloc);
-    for choice in path {
-        copy.push(*choice)?;
-    }
-    Ok(copy)
-}
-
 /// The line of an unproved goal.
 fn line_for(
     alloc: Global,
@@ -65,7 +62,7 @@ fn line_for(
     Ok(GoalLine {
         goal: goal.goal,
         proc: copy_bytes(alloc, name_of(program, goal.name.proc))?,
-        path: copy_path(alloc, goal.name.path.as_slice())?,
+        path: copy_list(alloc, goal.name.path.as_slice())?,
         at: place_in(text, goal.name.at.from),
     })
 }
@@ -86,9 +83,9 @@ fn lines_for(
     Ok(lines)
 }
 
-/// The report on a program.
-fn report_on(alloc: Global, text: &Text, program: &Program) -> Result<Report, Memory>
-    requires read { IsReadOf text.now (program_view program.now) }
+/// The report on a program of the first form.
+fn report_on_program(alloc: Global, text: &Text, program: &Program) -> Result<Report, Memory>
+    requires read { (tree : Items DeclTree) × IsTextWithin 64 text.now tree × IsProgramOf tree (program_view program.now) }
     requires short { length text.now ≤ 262144 }
     ensures { IfOk result (λ report. IsReportOf text.now report) }
 {
@@ -100,8 +97,37 @@ fn report_on(alloc: Global, text: &Text, program: &Program) -> Result<Report, Me
             goals,
             list: lines_for(alloc, text, program, list.as_slice())?,
         }),
-        Err(GoalErr::Paths { .. } | GoalErr::Goals) => Ok(Report::NotYet),
+        Err(GoalErr::Paths { .. }) => Ok(Report::NotYet),
+        Err(GoalErr::Goals) => Ok(Report::NotYet),
         Err(GoalErr::Memory) => Err(Memory),
+    }
+}
+
+/// The report on a text with this tree.
+fn report_on_tree(alloc: Global, text: &Text, ast: &Ast) -> Result<Report, Memory>
+    requires read { IsTextWithin 64 text.now (ast_view ast.now) }
+    requires short { length text.now ≤ 262144 }
+    ensures { IfOk result (λ report. IsReportOf text.now report) }
+{
+    match first_program(alloc, ast)? {
+        Some(program) => report_on_program(alloc, text, &program),
+        None => Ok(Report::NotYet),
+    }
+}
+
+/// The report on a text with these tokens.
+fn report_on_tokens(alloc: Global, text: &Text, tokens: &List<Token>) -> Result<Report, Memory>
+    requires lexed { Lexed 0 text.now tokens.now }
+    requires short { length text.now ≤ 262144 }
+    ensures { IfOk result (λ report. IsReportOf text.now report) }
+{
+    match parse(alloc, text.bytes(), tokens) {
+        Ok(ast) => report_on_tree(alloc, text, &ast),
+        Err(ParseErr::Syntax { token }) => Ok(Report::Syntax {
+            at: place_in(text, tokens[token as usize].span.from),
+        }),
+        Err(ParseErr::TooDeep { .. }) => Ok(Report::Depth),
+        Err(ParseErr::Memory) => Err(Memory),
     }
 }
 
@@ -111,9 +137,12 @@ pub fn judge(alloc: Global, content: Vec<u8>) -> Result<Report, Memory>
     ensures { IfOk result (λ report. IsReportOf content.items report) }
 {
     let text = Text::new(content);
-    match read_program(alloc, text.bytes()) {
-        Ok(program) => report_on(alloc, &text, &program),
-        Err(ReadError::NotYet) => Ok(Report::NotYet),
-        Err(ReadError::Memory) => Err(Memory),
+    match lex(alloc, text.bytes()) {
+        Ok(tokens) => report_on_tokens(alloc, &text, &tokens),
+        Err(LexErr::Fault { at, kind }) => Ok(Report::Lex {
+            fault: kind,
+            at: place_in(&text, at),
+        }),
+        Err(LexErr::Memory) => Err(Memory),
     }
 }

@@ -2,6 +2,7 @@
 #![tactic(auto)]
 
 mod judge;
+pub mod laws;
 mod report;
 #[cfg(test)]
 mod tests;

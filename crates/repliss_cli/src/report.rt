@@ -1,8 +1,9 @@
 // Reports, their statuses and their lines.
 ghost use Rattle.std.specs.Prelude.{◌≡◌, ◌++◌, ◌∷◌, [], codes, decimal, flat_map, string_bytes, IfOk, OnOk};
 ghost use Rattle.rp_io.specs.Sinks.{bytes_of};
-ghost use Rattle.repliss_cli.specs.Texts.{goal_line, choice_text, path_text, place_text, report_text, status_of, number_of, unproved_line, verified_line};
+ghost use Rattle.repliss_cli.specs.Texts.{goal_line, choice_text, fault_name, path_text, place_text, report_text, status_of, number_of, unproved_line, verified_line};
 
+use rp_lexer::LexFault;
 use rp_span::Pos;
 use rp_value::{Bytes, List, Memory};
 use std::alloc::Global;
@@ -50,6 +51,11 @@ pub enum Report {
     Unproved { goals: u32, list: List<GoalLine> },
     Usage,
     ProgramBytes,
+    /// The first fault among the tokens, and where it stands.
+    Lex { fault: LexFault, at: Pos },
+    /// Where the first token stands that can't follow.
+    Syntax { at: Pos },
+    Depth,
     NotYet,
 }
 
@@ -61,7 +67,12 @@ impl Report {
         match self {
             Report::Verified { .. } => Status::Fine,
             Report::Unproved { .. } => Status::Found,
-            Report::Usage | Report::ProgramBytes | Report::NotYet => Status::Refused,
+            Report::Usage
+            | Report::ProgramBytes
+            | Report::Lex { .. }
+            | Report::Syntax { .. }
+            | Report::Depth
+            | Report::NotYet => Status::Refused,
         }
     }
 }
@@ -167,6 +178,36 @@ fn verified_line(alloc: Global, goals: u32) -> Result<String, Memory>
     })
 }
 
+/// What a fault among the tokens is called.
+fn fault_name(fault: LexFault) -> &'static str
+    ensures { result.now ≡ fault_name fault }
+{
+    match fault {
+        LexFault::BadByte => "bad byte",
+        LexFault::OpenString => "open string",
+        LexFault::NumberRange => "number range",
+    }
+}
+
+/// A line that ends with a place.
+fn line_with_place(alloc: Global, head: &str, at: &Pos) -> Result<String, Memory>
+    ensures { IfOk result (λ line. string_bytes line ≡ head.now ++ place_text at.now) }
+{
+    let line = at.line;
+    let column = at.col;
+    Ok(format!(in alloc; "{head} at {line}:{column}\n")?)
+}
+
+/// The line of a fault among the tokens.
+fn lex_line(alloc: Global, fault: LexFault, at: &Pos) -> Result<String, Memory>
+    ensures { IfOk result (λ line. string_bytes line ≡ codes "refused: lex " ++ (fault_name fault ++ place_text at.now)) }
+{
+    let name = fault_name(fault);
+    let line = at.line;
+    let column = at.col;
+    Ok(format!(in alloc; "refused: lex {name} at {line}:{column}\n")?)
+}
+
 /// The lines of a report, each with its newline.
 pub fn lines(alloc: Global, report: &Report) -> Result<Vec<Vec<u8>>, Memory>
     ensures { IfOk result (λ lines. bytes_of lines.items ≡ report_text report.now) }
@@ -187,6 +228,9 @@ pub fn lines(alloc: Global, report: &Report) -> Result<Vec<Vec<u8>>, Memory>
             alloc,
             format!(in alloc; "refused: limit program bytes 262144\n")?,
         ),
+        Report::Lex { fault, at } => one(alloc, lex_line(alloc, *fault, at)?),
+        Report::Syntax { at } => one(alloc, line_with_place(alloc, "refused: syntax", at)?),
+        Report::Depth => one(alloc, format!(in alloc; "refused: limit depth 64\n")?),
         Report::NotYet => one(alloc, format!(in alloc; "refused: not yet\n")?),
     }
 }

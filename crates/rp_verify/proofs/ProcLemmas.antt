@@ -54,7 +54,7 @@ first_past procs i q within is past few = record {
   past =
       let at : slice_get (map proc_view procs) i ≡ Some (proc_view q) =
       slice_get-map proc_view procs i ∙ (ap (λ o. option_map proc_view o) (slice_get-get_or procs i q within) ∙ ap (λ q. Some (proc_view q)) (sym is)) in
-      subst (λ o. IfSome o (λ q. 1024 < proc_paths q)) (sym at) past;
+      (proc_view q, at, past);
 }
 
 -- at the end of the procedures

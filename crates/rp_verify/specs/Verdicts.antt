@@ -1,5 +1,5 @@
 -- What a verdict says of a program.
-use Rattle.std.specs.Prelude.{◌≡◌, ◌≢◌, ℕ, ◌+◌, ◌≤◌, ◌<◌, if◌then◌else◌, List, [], ◌∷◌, ◌++◌, length, take, All, Some, None, slice_get, IfSome}
+use Rattle.std.specs.Prelude.{◌≡◌, ◌≢◌, ℕ, ◌+◌, ◌≤◌, ◌<◌, if◌then◌else◌, List, [], ◌∷◌, ◌++◌, length, take, All, Some, None, slice_get}
 use Rattle.rp_lang.specs.declared.goal.GoalName.{GoalName}
 use Rattle.rp_lang.specs.declared.goal.GoalKind.TheVariants as kind
 use Rattle.rp_lang.specs.Programs.{Proc, Prog}
@@ -47,7 +47,7 @@ Says p (Listed n list) = record { counted : n ≡ length (goals p); exact : list
 -- the procedure of that number is the first with too many paths
 pub record IsFirstPast (procs : List Proc) (n : ℕ) : Type 0 where
   pub before : All HasFewPaths (take n procs)
-  pub past : IfSome (slice_get procs n) (λ q. 1024 < proc_paths q)
+  pub past : (q : Proc) × (slice_get procs n ≡ Some q) × (1024 < proc_paths q)
 
 -- which limit the program passes; want of memory says nothing of it
 abbrev pub IsPast : Prog → GoalErr → Type 0

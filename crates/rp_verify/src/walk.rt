@@ -11,19 +11,8 @@ use crate::rows::{Row, divided, holds_at_all};
 use crate::verdict::Unproved;
 use rp_lang::{Formula, GoalKind, GoalName, Stmt, StmtKind};
 use rp_span::Span;
-use rp_value::{List, Memory};
+use rp_value::{List, Memory, copy_list};
 use std::alloc::Global;
-
-/// A list of the same numbers.
-fn copied(alloc: Global, path: &[u32]) -> Result<List<u32>, Memory>
-    ensures { IfOk result (λ copy. copy ≡ path.now) }
-{
-    let mut copy = List::new(alloc);
-    for choice in path {
-        copy.push(*choice)?;
-    }
-    Ok(copy)
-}
 
 /// A walk through the code of procedures, and the goals that it found false.
 #[derive(Drop)]
@@ -52,7 +41,7 @@ impl Walk {
         }) }
     {
         if !holds_at_all(formula, rows) {
-            let path = copied(alloc, self.path.as_slice())?;
+            let path = copy_list(alloc, self.path.as_slice())?;
             let name = GoalName {
                 kind: GoalKind::Assert,
                 proc: Some(self.proc),

@@ -1,0 +1,73 @@
+-- The report that has its cause is the one that is put.
+use Rattle.std.proofs.Common.{◌≡◌, ℕ, List, refl, sym, ap, subst, ◌∙◌}
+use Rattle.std.specs.declared.option.Option.{Option}
+use Rattle.std.specs.declared.option.Option.TheVariants.{None, Some}
+use Rattle.std.specs.Prelude.{IfSome, IsSome}
+use Rattle.rp_io.specs.Files.{Contents, content_of}
+use Rattle.rp_io.specs.Sinks.{Puts}
+use Rattle.repliss_cli.specs.declared.report.Report.{Report}
+use Rattle.repliss_cli.specs.declared.report.Report.TheVariants.{Verified, Unproved, Usage, ProgramBytes, Lex, Syntax, Depth, NotYet}
+use Rattle.repliss_cli.specs.declared.report.Status.{Status}
+use Rattle.repliss_cli.specs.declared.report.Status.TheVariants.{Fine, Found, Refused, ReadFault, WriteFault, NoMemory}
+use Rattle.repliss_cli.specs.Words.{Words, named}
+use Rattle.repliss_cli.specs.Texts.{report_text, status_of}
+use Rattle.repliss_cli.specs.Answers.{OnContent, OnName, IsReportOf, HasCause, AreTold, Tells, IsAnswer}
+use Rattle.repliss_cli.proofs.Reports.{one_report}
+
+-- what the words ask for: the usage, or the report on a content
+data Asked (words : Words) (told : Option Contents) : Report → Type 0 where
+  usage : named words ≡ None → Asked words told Usage
+  file : {name : List ℕ} {content : List ℕ} {r : Report} → named words ≡ Some name → content_of told name ≡ Some content → IsReportOf content r → Asked words told r
+
+none_is_some : IsSome {T = List ℕ} None → ⊥
+none_is_some h = cc
+
+on_told : (words : Words) (told : Option Contents) (r : Report) → AreTold words told
+    → (n : Option (List ℕ)) → named words ≡ n → OnName n told (λ content. IsReportOf content r) → Asked words told r
+on_told words told r are None is h = absurd h
+on_told words told r are (Some name) is h = go (content_of told name) refl (subst (λ n. IfSome n (λ name. IsSome (content_of told name))) is are) h
+  where
+    go : (c : Option (List ℕ)) → content_of told name ≡ c → IsSome (content_of told name) → OnContent (content_of told name) (λ content. IsReportOf content r) → Asked words told r
+    go None found some h = absurd (none_is_some (subst (λ o. IsSome o) found some))
+    go (Some content) found some h = file is found (subst (λ c. OnContent c (λ content. IsReportOf content r)) found h)
+
+asked : (words : Words) (told : Option Contents) (r : Report) → AreTold words told → HasCause words told r → Asked words told r
+asked words told Usage are h = usage h
+asked words told ProgramBytes are h = on_told words told ProgramBytes are (named words) refl h
+asked words told (Verified n) are h = on_told words told (Verified n) are (named words) refl h
+asked words told (Unproved n lines) are h = on_told words told (Unproved n lines) are (named words) refl h
+asked words told (Lex f pos) are h = on_told words told (Lex f pos) are (named words) refl h
+asked words told (Syntax pos) are h = on_told words told (Syntax pos) are (named words) refl h
+asked words told Depth are h = on_told words told Depth are (named words) refl h
+asked words told NotYet are h = on_told words told NotYet are (named words) refl h
+
+one_asked : {words : Words} {told : Option Contents} {r s : Report} → Asked words told r → Asked words told s → r ≡ s
+one_asked (usage none) (usage also) = refl
+one_asked (usage none) (file is found h) = cc
+one_asked (file is found h) (usage none) = cc
+one_asked {told = told} {r = r} {s = s} (file {name = name} {content = content} is found h) (file {name = other} {content = more} also there g) =
+    let names : name ≡ other = cc in
+    let contents : content ≡ more = let at : content_of told name ≡ Some more = subst (λ name. content_of told name ≡ Some more) (sym names) there in cc in
+    one_report content r s h (subst (λ content. IsReportOf content s) (sym contents) g)
+
+pub exactly : (words : Words) (told : Option Contents) (status : Status) (old new : Option (List ℕ)) (report : Report)
+    → (status ≡ Fine → IsAnswer words told status old new) → (status ≡ Found → IsAnswer words told status old new) → (status ≡ Refused → IsAnswer words told status old new)
+    → AreTold words told → HasCause words told report → Tells report status old new
+exactly words told Fine old new report fine found refused are cause = told_of (fine refl)
+  where
+    told_of : IsAnswer words told Fine old new → Tells report Fine old new
+    told_of a = let same : a.report ≡ report = one_asked (asked words told a.report are a.cause) (asked words told report are cause) in
+        (a.answered ∙ ap status_of same, subst (λ r. Puts old new (report_text r)) same a.put)
+exactly words told Found old new report fine found refused are cause = told_of (found refl)
+  where
+    told_of : IsAnswer words told Found old new → Tells report Found old new
+    told_of a = let same : a.report ≡ report = one_asked (asked words told a.report are a.cause) (asked words told report are cause) in
+        (a.answered ∙ ap status_of same, subst (λ r. Puts old new (report_text r)) same a.put)
+exactly words told Refused old new report fine found refused are cause = told_of (refused refl)
+  where
+    told_of : IsAnswer words told Refused old new → Tells report Refused old new
+    told_of a = let same : a.report ≡ report = one_asked (asked words told a.report are a.cause) (asked words told report are cause) in
+        (a.answered ∙ ap status_of same, subst (λ r. Puts old new (report_text r)) same a.put)
+exactly words told ReadFault old new report fine found refused are cause = tt
+exactly words told WriteFault old new report fine found refused are cause = tt
+exactly words told NoMemory old new report fine found refused are cause = tt

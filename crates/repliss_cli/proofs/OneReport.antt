@@ -1,0 +1,156 @@
+-- A text has one report: what it reads as and what its program is decide it.
+use Rattle.std.proofs.Common.{◌≡◌, ℕ, ◌+◌, ◌<◌, ◌≤◌, Bool, true, false, ◌&&◌, ◌==◌, nat_le, IsTrue, List, [], ◌∷◌, length, All, refl, sym, ap, subst, ◌∙◌, arith}
+use Rattle.std.specs.List.{list_all}
+use Rattle.std.proofs.lemmas.List.Elements.{All-nil, All-cons, All-head, All-tail}
+use Rattle.rp_span.specs.Places.{place_of}
+use Rattle.rp_value.specs.declared.tables.Ty.{Ty}
+use Rattle.rp_value.specs.declared.tables.Ty.TheVariants.{Datatype}
+use Rattle.rp_grammar.specs.declared.LexFault.{LexFault}
+use Rattle.rp_grammar.specs.Trees.{DeclTree}
+use Rattle.rp_lang.specs.FirstForm.{IsFirstForm, is_bool, is_over_truth_values, are_distinct, names}
+use Rattle.rp_lang.specs.Programs.{Proc, Prog}
+use Rattle.rp_lang.proofs.ProgramLemmas.{proc_facts}
+use Rattle.event_machine.specs.Runs.{IsSafe}
+use Rattle.event_machine.specs.Goals.{Goal, goals, IsBool, IsFalseGoal, TakesTruthValues}
+use Rattle.event_machine.proofs.FalseLemmas.{none_false}
+use Rattle.rp_types.specs.FirstProgram.{IsProgramOf}
+use Rattle.rp_verify.specs.Verdicts.{IsWithinLimits}
+use Rattle.repliss_cli.specs.declared.report.GoalLine.{GoalLine}
+use Rattle.repliss_cli.specs.declared.report.Report.{Report}
+use Rattle.repliss_cli.specs.declared.report.Report.TheVariants.{Verified, Unproved, Usage, ProgramBytes, Lex, Syntax, Depth, NotYet}
+use Rattle.repliss_cli.specs.FirstText.{IsFirstText}
+use Rattle.repliss_cli.specs.Answers.{line_of, NameFalse, no_goal, false_goal, other_goal, IsVerified, IsUnproved, IsLexFault, IsSyntaxFault, IsTooDeepText, IsOtherText, IsReportOf}
+use Rattle.repliss_cli.proofs.Readings.{Reading, too_long, faulty, bad, too_deep, tree, Reads, reads_too_long, reads_faulty, reads_bad, reads_too_deep, reads_tree, one_tree, one_reading}
+
+-- a tree is one program
+abbrev pub OneProgram : Type 0
+OneProgram = (t : List DeclTree) (p q : Prog) → IsProgramOf t p → IsProgramOf t q → p ≡ q
+
+-- ---- programs over truth values
+
+both : (a b : Bool) → IsTrue (a && b) → IsTrue a × IsTrue b
+both true true t = (t, t)
+both true false t = grind (arith, t)
+both false b t = grind (arith, t)
+
+number_zero : (n : ℕ) → IsTrue (n == 0) → n ≡ 0
+number_zero n t = grind arith
+
+bools : (types : List Ty) → IsTrue (list_all is_bool types) → All IsBool types
+bools [] all = All-nil IsBool
+bools (Datatype n ∷ types) all =
+    let parts = both (n == 0) (list_all is_bool types) all in
+    All-cons IsBool (Datatype n) types (ap Datatype (number_zero n parts.0)) (bools types parts.1)
+bools (ty ∷ types) all = grind (arith, all)
+
+abbrev HasBools : Proc → Type 0
+HasBools q = All IsBool q.params
+
+takes_procs : (procs : List Proc) → IsTrue (list_all is_over_truth_values procs) → All HasBools procs
+takes_procs [] all = All-nil HasBools
+takes_procs (q ∷ procs) all =
+    let parts = both (is_over_truth_values q) (list_all is_over_truth_values procs) all in
+    All-cons HasBools q procs (bools q.params (proc_facts q parts.0).bool_params) (takes_procs procs parts.1)
+
+pub takes_truth_values : (p : Prog) → IsFirstForm p → TakesTruthValues p
+takes_truth_values p form =
+    let few : Bool = nat_le (length p.procs) 64 in
+    let all : Bool = list_all is_over_truth_values p.procs in
+    let parts = both (few && all) (are_distinct (names p.procs)) form.procs in
+    takes_procs p.procs (both few all parts.0).1
+
+-- ---- lines of false goals
+
+one_line_list : {content : List ℕ} {p : Prog} {n : ℕ} {goals : List Goal} {lines others : List GoalLine}
+    → NameFalse content p n goals lines → NameFalse content p n goals others → lines ≡ others
+one_line_list no_goal no_goal = refl
+one_line_list {content = content} {p = p} {n = n} (false_goal {goal = goal} is rest) (false_goal also more) =
+    ap (λ lines. line_of content p n goal ∷ lines) (one_line_list rest more)
+one_line_list (false_goal is rest) (other_goal not more) = absurd (not is)
+one_line_list (other_goal not rest) (false_goal is more) = absurd (not is)
+one_line_list (other_goal not rest) (other_goal also more) = one_line_list rest more
+
+no_lines : {content : List ℕ} {p : Prog} {n : ℕ} {goals : List Goal} {lines : List GoalLine}
+    → All (λ goal. IsFalseGoal goal → ⊥) goals → NameFalse content p n goals lines → lines ≡ []
+no_lines none no_goal = refl
+no_lines none (false_goal {goal = goal} {goals = goals} is rest) = absurd (All-head (λ goal. IsFalseGoal goal → ⊥) goal goals none is)
+no_lines none (other_goal {goal = goal} {goals = goals} not rest) = no_lines (All-tail (λ goal. IsFalseGoal goal → ⊥) goal goals none) rest
+
+-- ---- what is reported of a reading
+
+-- of a program within the limits
+pub data OfProgram (content : List ℕ) (p : Prog) : Report → Type 0 where
+  of_safe : IsSafe p → OfProgram content p (Verified (length (goals p)))
+  of_unsafe : {lines : List GoalLine} → NameFalse content p 1 (goals p) lines → (lines ≡ [] → ⊥) → OfProgram content p (Unproved (length (goals p)) lines)
+
+-- p is the tree's program, and within the limits
+pub record IsFirst (t : List DeclTree) (p : Prog) : Type 0 where
+  pub program : IsProgramOf t p
+  pub within : IsWithinLimits p
+
+pub data OfTree (content : List ℕ) (t : List DeclTree) : Report → Type 0 where
+  of_first : {p : Prog} {r : Report} → IsFirst t p → OfProgram content p r → OfTree content t r
+  of_other : ((p : Prog) → IsFirst t p → ⊥) → OfTree content t NotYet
+
+pub data OfReading (content : List ℕ) : Reading → Report → Type 0 where
+  of_too_long : OfReading content too_long ProgramBytes
+  of_faulty : {p : ℕ} {f : LexFault} → OfReading content (faulty p f) (Lex f (place_of content p))
+  of_bad : {p : ℕ} → OfReading content (bad p) (Syntax (place_of content p))
+  of_too_deep : OfReading content too_deep Depth
+  of_tree : {t : List DeclTree} {r : Report} → OfTree content t r → OfReading content (tree t) r
+
+one_of_program : {content : List ℕ} {p : Prog} {r s : Report} → TakesTruthValues p → OfProgram content p r → OfProgram content p s → r ≡ s
+one_of_program takes (of_safe safe) (of_safe also) = refl
+one_of_program {p = p} takes (of_safe safe) (of_unsafe named some) = absurd (some (no_lines (none_false p takes safe) named))
+one_of_program {p = p} takes (of_unsafe named some) (of_safe safe) = absurd (some (no_lines (none_false p takes safe) named))
+one_of_program {p = p} takes (of_unsafe named some) (of_unsafe also others) = ap (λ lines. Unproved (length (goals p)) lines) (one_line_list named also)
+
+one_of_tree : {content : List ℕ} {t : List DeclTree} {r s : Report} → OneProgram → OfTree content t r → OfTree content t s → r ≡ s
+one_of_tree {content = content} {t = t} {s = s} one (of_first {p = p} is of) (of_first {p = q} also and) =
+    one_of_program (takes_truth_values p is.program.plain) of (subst (λ p. OfProgram content p s) (sym (one t p q is.program also.program)) and)
+one_of_tree one (of_first {p = p} is of) (of_other none) = absurd (none p is)
+one_of_tree one (of_other none) (of_first {p = p} is of) = absurd (none p is)
+one_of_tree one (of_other none) (of_other also) = refl
+
+one_of_reading : {content : List ℕ} {a : Reading} {r s : Report} → OneProgram → OfReading content a r → OfReading content a s → r ≡ s
+one_of_reading one of_too_long of_too_long = refl
+one_of_reading one of_faulty of_faulty = refl
+one_of_reading one of_bad of_bad = refl
+one_of_reading one of_too_deep of_too_deep = refl
+one_of_reading one (of_tree of) (of_tree and) = one_of_tree one of and
+
+-- ---- reports of texts
+
+pub record IsOf (content : List ℕ) (a : Reading) (r : Report) : Type 0 where
+  pub reads : Reads content a
+  pub of : OfReading content a r
+
+is_first : {content : List ℕ} {p : Prog} → (text : IsFirstText content p) → IsFirst text.tree p
+is_first text = record { program = text.program; within = text.within }
+
+first_text : {content : List ℕ} {t : List DeclTree} {p : Prog} → length content ≤ 262144 → Reads content (tree t) → IsFirst t p → IsFirstText content p
+first_text {t = t} short (reads_tree s text) is = record { short = short; tree = t; text = text; program = is.program; within = is.within }
+
+pub is_of : (content : List ℕ) (r : Report) → IsReportOf content r → (a : Reading) × IsOf content a r
+is_of content (Verified n) h =
+    let of : OfProgram content h.program (Verified n) = subst (λ n. OfProgram content h.program (Verified n)) (sym h.counts) (of_safe h.safe) in
+    (tree h.text.tree, record { reads = reads_tree h.text.short h.text.text; of = of_tree (of_first (is_first h.text) of) })
+is_of content (Unproved n lines) h =
+    let of : OfProgram content h.program (Unproved n lines) = subst (λ n. OfProgram content h.program (Unproved n lines)) (sym h.counts) (of_unsafe h.named h.some) in
+    (tree h.text.tree, record { reads = reads_tree h.text.short h.text.text; of = of_tree (of_first (is_first h.text) of) })
+is_of content Usage h = absurd h
+is_of content ProgramBytes h = (too_long, record { reads = reads_too_long h; of = of_too_long })
+is_of content (Lex f pos) h =
+    (faulty h.at f, record { reads = reads_faulty h.short h.faulty; of = subst (λ pos. OfReading content (faulty h.at f) (Lex f pos)) (sym h.stands) of_faulty })
+is_of content (Syntax pos) h =
+    (bad h.at, record { reads = reads_bad h.short h.bad; of = subst (λ pos. OfReading content (bad h.at) (Syntax pos)) (sym h.stands) of_bad })
+is_of content Depth h = (too_deep, record { reads = reads_too_deep h.short h.deep; of = of_too_deep })
+is_of content NotYet h =
+    (tree h.tree, record { reads = reads_tree h.short h.text; of = of_tree (of_other (λ p is. h.other p (first_text h.short (reads_tree h.short h.text) is))) })
+
+pub one_report : OneProgram → (content : List ℕ) (r s : Report) → IsReportOf content r → IsReportOf content s → r ≡ s
+one_report one content r s h g =
+    let (a, is) = is_of content r h in
+    let (b, also) = is_of content s g in
+    let same : a ≡ b = one_reading is.reads also.reads in
+    one_of_reading one is.of (subst (λ a. OfReading content a s) (sym same) also.of)

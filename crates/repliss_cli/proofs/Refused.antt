@@ -1,0 +1,88 @@
+-- Refusals of a text, from what its tokens and its tree are.
+use Rattle.std.proofs.Common.{◌≡◌, ℕ, zero, suc, ◌+◌, ◌<◌, ◌≤◌, List, [], ◌∷◌, length, Some, slice_get, All, refl, sym, ap, subst, ◌∙◌, arith, ◌⊎◌, inl, inr}
+use Rattle.std.proofs.lemmas.List.Elements.{All-head, All-tail}
+use Rattle.rp_span.specs.declared.Span.{Span}
+use Rattle.rp_span.specs.declared.Pos.{Pos}
+use Rattle.rp_span.specs.Places.{place_of}
+use Rattle.rp_grammar.specs.declared.Token.{Token}
+use Rattle.rp_grammar.specs.Lexed.{Lexed}
+use Rattle.rp_grammar.specs.Terminals.{Terminal, Tok, at}
+use Rattle.rp_grammar.specs.Toks.{ToksOf}
+use Rattle.rp_grammar.specs.Toks as toks
+use Rattle.rp_grammar.specs.Trees.{DeclTree}
+use Rattle.rp_grammar.specs.Begins.{IsFirstBad, IsTooDeep}
+use Rattle.rp_grammar.specs.Texts.{HasToks, IsTextWithin, StandsAt}
+use Rattle.rp_grammar.proofs.Unique.{one_lexing}
+use Rattle.rp_lang.specs.Programs.{Proc, Prog}
+use Rattle.rp_types.specs.FirstProgram.{IsProgramOf}
+use Rattle.rp_types.proofs.OneProgram as programs
+use Rattle.rp_verify.specs.Verdicts.{proc_paths, HasFewPaths, IsPast, IsWithinLimits}
+use Rattle.rp_verify.specs.declared.verdict.GoalErr.{GoalErr}
+use Rattle.rp_verify.specs.declared.verdict.GoalErr.TheVariants as err
+use Rattle.repliss_cli.specs.FirstText.{IsFirstText}
+use Rattle.repliss_cli.specs.Answers.{IsSyntaxFault, IsTooDeepText, IsOtherText}
+use Rattle.repliss_cli.proofs.Readings.{some_place, one_tree}
+
+-- as many as the tokens
+as_many : {text : List ℕ} {ts : List Token} {us : List Tok} → ToksOf text ts us → length us ≡ length ts
+as_many toks.ToksOf.none = refl
+as_many (toks.ToksOf.more is rest) = ap suc (as_many rest)
+
+-- each stands where its token does
+stands : {text : List ℕ} {ts : List Token} {us : List Tok} {t : Token} (k : ℕ) → ToksOf text ts us → slice_get ts k ≡ Some t → StandsAt us k t.span.from
+stands k toks.ToksOf.none found = cc
+stands {t = t} zero (toks.ToksOf.more {t = first} {k = terminal} is rest) found = let same : first ≡ t = cc in (terminal, first.span, refl, ap (λ t. t.span.from) same)
+stands (suc k) (toks.ToksOf.more is rest) found = stands k rest found
+
+lexed_as : {content : List ℕ} {ts rs : List Token} {us : List Tok} → Lexed 0 content ts → Lexed 0 content rs → ToksOf content rs us → ToksOf content ts us
+lexed_as {content = content} {us = us} lexed also of = subst (λ ts. ToksOf content ts us) (one_lexing also lexed) of
+
+-- the number of a bad token is that of a token
+pub within_tokens : {content : List ℕ} {ts : List Token} {k : ℕ} → Lexed 0 content ts → (us : List Tok) × HasToks content us × IsFirstBad 64 us k → k < length ts
+within_tokens {k = k} lexed (us, (rs, also, of), is) = subst (λ n. k < n) (as_many (lexed_as lexed also of)) is.0
+
+-- the token at fault stands there
+pub syntax_fault : {content : List ℕ} {ts : List Token} {k : ℕ} {t : Token} → length content ≤ 262144 → Lexed 0 content ts
+    → (us : List Tok) × HasToks content us × IsFirstBad 64 us k → slice_get ts k ≡ Some t → IsSyntaxFault content (place_of content t.span.from)
+syntax_fault {k = k} {t = t} short lexed (us, (rs, also, of), is) found =
+    record { short = short; at = t.span.from; bad = (us, k, (rs, also, of), is, stands k (lexed_as lexed also of) found); stands = refl }
+
+-- some token is too deep
+pub too_deep_text : {content : List ℕ} {k : ℕ} → length content ≤ 262144 → (us : List Tok) × HasToks content us × IsTooDeep 64 us k → IsTooDeepText content
+too_deep_text {k = k} short (us, has, is) = let (p, there) = some_place us k is.0 in record { short = short; at = p; deep = (us, k, has, is, there) }
+
+-- the text's tree is no program of the first form
+pub other_text : {content : List ℕ} {t : List DeclTree} → length content ≤ 262144 → IsTextWithin 64 content t → ((p : Prog) → IsProgramOf t p → ⊥) → IsOtherText content
+other_text {t = t} short text none = record {
+  short = short;
+  tree = t;
+  text = text;
+  other = λ p first. none p (subst (λ t. IsProgramOf t p) (one_tree first.text text) first.program);
+}
+
+many_paths : (procs : List Proc) (n : ℕ) (q : Proc) → slice_get procs n ≡ Some q → 1024 < proc_paths q → All HasFewPaths procs → ⊥
+many_paths [] n q is past all = cc
+many_paths (first ∷ procs) zero q is past all =
+    let same : first ≡ q = cc in
+    let few : proc_paths q ≤ 1024 = subst HasFewPaths same (All-head HasFewPaths first procs all) in
+    omega (arith, past, few)
+many_paths (first ∷ procs) (suc n) q is past all = many_paths procs n q is past (All-tail HasFewPaths first procs all)
+
+-- what passes a limit isn't within the limits
+pub past_limits : (p : Prog) (e : GoalErr) → IsPast p e → (e ≡ err.Memory → ⊥) → IsWithinLimits p → ⊥
+past_limits p (err.Paths n) first other within = let (q, is, past) = first.past in many_paths p.procs n q is past within.few_paths
+past_limits p err.Goals (few, many) other within = let few = within.few_goals in omega (arith, many, few)
+past_limits p err.Memory first other within = other refl
+
+-- the program of the text's tree is that of a text of the first form
+pub first_text : {content : List ℕ} {p : Prog} → length content ≤ 262144 → (t : List DeclTree) × IsTextWithin 64 content t × IsProgramOf t p → IsWithinLimits p → IsFirstText content p
+first_text short (t, text, is) within = record { short = short; tree = t; text = text; program = is; within = within }
+
+-- the program of the text's tree passes a limit
+pub past_text : {content : List ℕ} {p : Prog} → length content ≤ 262144 → (t : List DeclTree) × IsTextWithin 64 content t × IsProgramOf t p → (IsWithinLimits p → ⊥) → IsOtherText content
+past_text {p = p} short (t, text, is) past = record {
+  short = short;
+  tree = t;
+  text = text;
+  other = λ q first. past (subst IsWithinLimits (sym (programs.one_program t p q is (subst (λ t. IsProgramOf t q) (one_tree first.text text) first.program))) first.within);
+}

@@ -1,9 +1,0 @@
-pub mod Booleans
-pub mod Tokens
-pub mod Chains
-pub mod FormulaLemmas
-pub mod StatementLemmas
-pub mod DeclarationLemmas
-pub mod NameLemmas
-pub mod Gathered
-pub mod TextLemmas
