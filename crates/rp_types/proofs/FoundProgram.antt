@@ -12,7 +12,7 @@ use Rattle.rp_types.proofs.Parts.{both_parts, guarded_there, guarded_is}
 use Rattle.rp_types.proofs.NameLemmas.{distinct_names}
 use Rattle.rp_types.proofs.FoundProcs.{procs_sound, procs_found, procs_first, procs_named, of_named, as_many}
 
-few_test : (m n : ℕ) → m ≡ n → n ≤ 64 → IsTrue (nat_le m 64)
+pub few_test : (m n : ℕ) → m ≡ n → n ≤ 64 → IsTrue (nat_le m 64)
 few_test m n e h = search (rules, tests)
 
 -- the program of the procedures that are found

@@ -7,3 +7,4 @@ pub mod FoundProcs
 pub mod FoundProgram
 pub mod Gathered
 pub mod Accesses
+pub mod Answered

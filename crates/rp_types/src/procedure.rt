@@ -66,7 +66,7 @@ fn bools(alloc: Global, count: usize) -> Result<List<Ty>, Memory>
     ensures { IfOk result (λ types. types ≡ replicate count (Datatype 0)) }
 {
     let mut types = List::new(alloc);
-    for _ in 0..count {
+    for i in 0..count {
         types.push(Ty::Datatype(0))?;
     }
     Ok(types)
