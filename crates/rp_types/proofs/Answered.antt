@@ -1,5 +1,5 @@
 -- What the making of a program says of the tree whose procedures it has.
-use Rattle.std.proofs.Common.{◌≡◌, ℕ, ◌≤◌, ◌↔◌, nat_le, IsTrue, List, length, map, Option, Some, None, Result, Ok, Err, IsSome, IfSome, IfNone, IfOk, sym, subst, rules, tests}
+use Rattle.std.proofs.Common.{◌≡◌, ◌≤◌, ◌↔◌, IsTrue, List, length, Option, Some, None, Result, Ok, Err, IsSome, IfSome, IfNone, IfOk, sym, subst, rules}
 use Rattle.std.proofs.lemmas.List.{length-map}
 use Rattle.rp_value.specs.declared.memory.Memory.{Memory}
 use Rattle.rp_grammar.specs.Trees.{DeclTree}

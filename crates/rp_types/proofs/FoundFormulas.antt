@@ -1,5 +1,5 @@
 -- The formula that is found for an expression is the one that it has.
-use Rattle.std.proofs.Common.{◌≡◌, ℕ, IsTrue, List, Option, Some, refl, ap, subst}
+use Rattle.std.proofs.Common.{◌≡◌, IsTrue, List, Some, refl, ap, subst}
 use Rattle.std.specs.Option.{option_map}
 use Rattle.rp_span.specs.declared.Span.{Span}
 use Rattle.rp_grammar.specs.Trees.{ident, ExprTree, ExprForm, ExprTrees, AccessTree, StepTrees, ArgTrees}
@@ -33,7 +33,7 @@ access_sound : (scope : List Name) (s : Span) (a : AccessTree) (f : Fo) → acce
 access_sound scope s (AccessTree.path (ident n at) StepTrees.no_steps ArgTrees.absent) f e =
     let there : MapThere (λ k. fo.Holds (Slot k)) (slot_from 0 scope n) f = map_there (λ k. fo.Holds (Slot k)) (slot_from 0 scope n) f e in
     subst (λ g. FormulaOf scope (ExprTree.node s (ExprForm.access (AccessTree.path (ident n at) StepTrees.no_steps ArgTrees.absent))) g) there.is
-      (FormulaOf.variable (slot_named scope n there.inner there.inner_is))
+    (FormulaOf.variable (slot_named scope n there.inner there.inner_is))
 access_sound scope s (AccessTree.path (ident n at) StepTrees.no_steps (ArgTrees.given es)) f e = absurd (cc)
 access_sound scope s (AccessTree.path (ident n at) (StepTrees.more_steps x xs) args) f e = absurd (cc)
 
@@ -45,7 +45,7 @@ mutual
   form_sound scope s (ExprForm.implies a b) f e =
       let there : BothThere fo.Implies (formula_for scope a) (formula_for scope b) f = both_there fo.Implies (formula_for scope a) (formula_for scope b) f e in
       subst (λ g. FormulaOf scope (ExprTree.node s (ExprForm.implies a b)) g) there.is
-        (FormulaOf.implies (formula_sound scope a there.left there.left_is) (formula_sound scope b there.right there.right_is))
+      (FormulaOf.implies (formula_sound scope a there.left there.left_is) (formula_sound scope b there.right there.right_is))
   form_sound scope s (ExprForm.or es) f e =
       let there : MapThere fo.Or (formulas_for scope es) f = map_there fo.Or (formulas_for scope es) f e in
       subst (λ g. FormulaOf scope (ExprTree.node s (ExprForm.or es)) g) there.is (FormulaOf.or (formulas_sound scope es there.inner there.inner_is))
@@ -64,7 +64,7 @@ mutual
   formulas_sound scope (ExprTrees.more_exprs a es) fs e =
       let there : BothThere also_fo (formula_for scope a) (formulas_for scope es) fs = both_there also_fo (formula_for scope a) (formulas_for scope es) fs e in
       subst (λ g. FormulasOf scope (ExprTrees.more_exprs a es) g) there.is
-        (FormulasOf.more_formulas (formula_sound scope a there.left there.left_is) (formulas_sound scope es there.right there.right_is))
+      (FormulasOf.more_formulas (formula_sound scope a there.left there.left_is) (formulas_sound scope es there.right there.right_is))
 
 -- ---- what is right is found
 

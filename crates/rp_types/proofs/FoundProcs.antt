@@ -1,5 +1,5 @@
 -- The procedures that are found for a tree are those that it has.
-use Rattle.std.proofs.Common.{◌≡◌, ℕ, suc, ◌≤◌, Bool, true, false, ◌&&◌, ◌||◌, nat_eq, nat_le, is_none, IsTrue, List, [], ◌∷◌, length, map, replicate, Option, Some, None, refl, sym, ap, ◌∙◌, subst}
+use Rattle.std.proofs.Common.{◌≡◌, suc, Bool, false, ◌&&◌, ◌||◌, nat_eq, nat_le, is_none, IsTrue, List, [], ◌∷◌, length, replicate, Option, Some, None, refl, sym, ap, ◌∙◌, subst}
 use Rattle.std.specs.Cmp.Lexicographic.{pointwise}
 use Rattle.std.specs.List.{list_all}
 use Rattle.std.specs.Option.{option_map}
@@ -11,7 +11,7 @@ use Rattle.rp_lang.specs.FirstForm.{are_distinct}
 use Rattle.rp_lang.specs.Programs.{Proc}
 use Rattle.rp_lang.specs.Stmts.{Sts}
 use Rattle.rp_types.specs.FirstForm.{is_bool, is_first_block, is_first_proc, is_first_decl}
-use Rattle.rp_types.specs.Found.{scope_of, is_named, is_proc_named, names_a_proc, are_apart, has_first_head, block_for, proc_with, proc_for, decl_for, procs_for, both, guarded}
+use Rattle.rp_types.specs.Found.{scope_of, is_named, is_proc_named, names_a_proc, are_apart, has_first_head, block_for, proc_with, proc_for, decl_for, procs_for}
 use Rattle.rp_types.specs.Resolution.{Name, AreDistinct, AreApart, ParamsOf, TypeOf, BlockOf, IsProcOf, ProcsOf, names}
 use Rattle.rp_types.proofs.Parts.{both_true, both_parts, BothThere, both_there, both_are, MapThere, map_there, guarded_there, guarded_is}
 use Rattle.rp_types.proofs.NameLemmas.{distinct_names, distinct_test, apart_names, apart_test}
@@ -90,7 +90,7 @@ module _ (tree : List DeclTree) (others : List Name) (same : (n : Name) → name
       let there = guarded_there (has_first_head tree params result) (option_map (proc_with name at params body) (block_for (scope_of params) body)) p e in
       let made : MapThere (proc_with name at params body) (block_for (scope_of params) body) p = map_there (proc_with name at params body) (block_for (scope_of params) body) p there.1 in
       subst (λ q. IsProcOf others at (ProcTree.proc (ident name s) params result body) q) made.is
-        (with_body at s name params result body made.inner (head_parts tree params result there.0) (block_sound (scope_of params) body made.inner made.inner_is))
+      (with_body at s name params result body made.inner (head_parts tree params result there.0) (block_sound (scope_of params) body made.inner made.inner_is))
 
   decl_sound : (d : DeclTree) (p : Proc) (ds : List DeclTree) (ps : List Proc) → decl_for tree d ≡ Some p → ProcsOf others ds ps → ProcsOf others (d ∷ ds) (p ∷ ps)
   decl_sound (DeclTree.node at (DeclForm.proc x)) p ds ps e more = ProcsOf.more_procs (proc_sound at x p e) more
@@ -125,15 +125,15 @@ module _ (tree : List DeclTree) (others : List Name) (same : (n : Name) → name
       let few = both_parts (nat_le (length proc.params) 8 && list_all is_bool proc.params) (is_first_block proc.body) first_here in
       let distinct : AreDistinct (scope_of proc.params) = subst AreDistinct facts.scope_is proc.distinct in
       let head : Head tree proc.params None = record {
-            few = (both_parts (nat_le (length proc.params) 8) (list_all is_bool proc.params) few.0).0;
-            no_result = refl;
-            bools = facts.bools;
-            distinct = distinct_test (scope_of proc.params) distinct;
-            apart = apart_test tree others same (scope_of proc.params) (subst (λ ns. AreApart ns others) facts.scope_is proc.apart);
-          } in
+        few = (both_parts (nat_le (length proc.params) 8) (list_all is_bool proc.params) few.0).0;
+        no_result = refl;
+        bools = facts.bools;
+        distinct = distinct_test (scope_of proc.params) distinct;
+        apart = apart_test tree others same (scope_of proc.params) (subst (λ ns. AreApart ns others) facts.scope_is proc.apart);
+      } in
       let runs : BlockOf (scope_of proc.params) proc.body p.body = subst (λ ns. BlockOf ns proc.body p.body) facts.scope_is proc.runs in
       let found : proc_for tree at shape ≡ Some (proc_with p.name at proc.params proc.body p.body) =
-            guarded_is (head_test tree proc.params None head) (ap (option_map (proc_with p.name at proc.params proc.body)) (block_found distinct runs)) in
+      guarded_is (head_test tree proc.params None head) (ap (option_map (proc_with p.name at proc.params proc.body)) (block_found distinct runs)) in
       ap (proc_for tree at) proc.is ∙ found ∙ ap Some (sym (proc_is at x p proc))
 
   pub procs_found : {ds : List DeclTree} {ps : List Proc} → IsTrue (list_all is_first_decl ds) → ProcsOf others ds ps → procs_for tree ds ≡ Some ps

@@ -1,8 +1,8 @@
 -- The program that is found for a tree is the one that it has, and where none is found it has none.
-use Rattle.std.proofs.Common.{◌≡◌, ℕ, ◌≤◌, nat_le, ◌&&◌, IsTrue, List, length, Option, Some, None, refl, sym, ap, ◌∙◌, subst, rules, tests}
+use Rattle.std.proofs.Common.{◌≡◌, ℕ, ◌≤◌, nat_le, ◌&&◌, IsTrue, List, length, Some, None, refl, sym, ap, ◌∙◌, subst, rules, tests}
 use Rattle.std.specs.List.{list_all}
 use Rattle.rp_grammar.specs.Trees.{DeclTree}
-use Rattle.rp_lang.specs.FirstForm.{IsFirstForm, are_over_truth_values, over_truth_values, is_over_truth_values, are_distinct}
+use Rattle.rp_lang.specs.FirstForm.{are_over_truth_values, over_truth_values, is_over_truth_values, are_distinct}
 use Rattle.rp_lang.specs.Programs.{Proc, Prog}
 use Rattle.rp_lang.proofs.ProgramLemmas.{few_procs}
 use Rattle.rp_types.specs.FirstProgram.{IsProgramOf}

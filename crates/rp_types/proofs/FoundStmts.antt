@@ -1,5 +1,5 @@
 -- The statements that are found for a tree are those that it has.
-use Rattle.std.proofs.Common.{◌≡◌, IsTrue, List, Option, Some, refl, ap, subst}
+use Rattle.std.proofs.Common.{◌≡◌, IsTrue, List, Some, refl, ap, subst}
 use Rattle.std.specs.Option.{option_map}
 use Rattle.rp_span.specs.declared.Span.{Span}
 use Rattle.rp_grammar.specs.Trees.{BlockTree, StmtTree, StmtForm, StmtTrees, ElseTree}
@@ -43,7 +43,7 @@ mutual
   form_sound scope at (StmtForm.if_ a b x) s e =
       let there : BranchThere at (formula_for scope a) (block_for scope b) (else_for scope x) s = branch_there at (formula_for scope a) (block_for scope b) (else_for scope x) s e in
       subst (λ g. StmtOf scope (StmtTree.node at (StmtForm.if_ a b x)) g) there.is
-        (StmtOf.if_ (formula_sound scope a there.condition there.condition_is) (block_sound scope b there.body there.body_is) (else_sound scope x there.otherwise there.otherwise_is))
+      (StmtOf.if_ (formula_sound scope a there.condition there.condition_is) (block_sound scope b there.body there.body_is) (else_sound scope x there.otherwise there.otherwise_is))
   form_sound scope at _ s e = absurd (cc)
 
   pub block_sound : (scope : List Name) (b : BlockTree) (ss : Sts) → block_for scope b ≡ Some ss → BlockOf scope b ss
@@ -54,7 +54,7 @@ mutual
   stmts_sound scope (StmtTrees.more_stmts x xs) ss e =
       let there : BothThere also_st (stmt_for scope x) (stmts_for scope xs) ss = both_there also_st (stmt_for scope x) (stmts_for scope xs) ss e in
       subst (λ g. StmtsOf scope (StmtTrees.more_stmts x xs) g) there.is
-        (StmtsOf.more_stmts (stmt_sound scope x there.left there.left_is) (stmts_sound scope xs there.right there.right_is))
+      (StmtsOf.more_stmts (stmt_sound scope x there.left there.left_is) (stmts_sound scope xs there.right there.right_is))
 
   else_sound : (scope : List Name) (x : ElseTree) (ss : Sts) → else_for scope x ≡ Some ss → ElseOf scope x ss
   else_sound scope ElseTree.no_else ss e = subst (λ g. ElseOf scope ElseTree.no_else g) (cc) ElseOf.no_else

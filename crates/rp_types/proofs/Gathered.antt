@@ -1,10 +1,10 @@
 -- Parts that are gathered one by one, each found or not.
-use Rattle.std.proofs.Common.{◌≡◌, ℕ, suc, ◌+◌, ◌<◌, ◌≤◌, List, [], ◌∷◌, ◌++◌, length, map, drop, get_or, Option, Some, None, refl, sym, ap, ◌∙◌, add-one, drop-cons, arith}
+use Rattle.std.proofs.Common.{◌≡◌, ℕ, suc, ◌+◌, ◌<◌, ◌≤◌, List, [], ◌∷◌, ◌++◌, length, map, drop, get_or, Option, Some, None, refl, sym, ap, ◌∙◌, add-one, drop-cons}
 use Rattle.std.proofs.lemmas.List.{map-append, drop_all}
 use Rattle.std.specs.Option.{option_map}
-use Rattle.rp_lang.specs.Formulas.{Fo, Fos, no_fo, also_fo}
+use Rattle.rp_lang.specs.Formulas.{Fo, no_fo, also_fo}
 use Rattle.rp_lang.specs.Programs.{Proc}
-use Rattle.rp_lang.specs.Stmts.{St, Sts, no_st, also_st}
+use Rattle.rp_lang.specs.Stmts.{St, no_st, also_st}
 use Rattle.rp_lang.specs.Views.{fos_of, sts_of}
 use Rattle.rp_types.specs.Found.{both}
 

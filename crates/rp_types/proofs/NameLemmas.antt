@@ -1,5 +1,5 @@
 -- What the tests of names say, and the slots of names.
-use Rattle.std.proofs.Common.{ℕ, zero, suc, ◌+◌, ◌<◌, ◌≡◌, ◌≢◌, Bool, true, false, not, ◌&&◌, nat_eq, if◌then◌else◌, IsTrue, List, [], ◌∷◌, length, get_or, slice_get, Contains, Option, Some, None, refl, sym, ap, ◌∙◌, arith, add-one, add-zero}
+use Rattle.std.proofs.Common.{ℕ, zero, suc, ◌+◌, ◌≡◌, ◌≢◌, Bool, true, false, not, ◌&&◌, nat_eq, if◌then◌else◌, IsTrue, List, [], ◌∷◌, get_or, slice_get, Contains, Some, refl, sym, ap, ◌∙◌, arith}
 use Rattle.std.specs.Cmp.Lexicographic.{pointwise}
 use Rattle.std.specs.List.{list_any}
 use Rattle.std.proofs.lemmas.Slice.Eq.{bytes_eq-Decides}
@@ -9,7 +9,6 @@ use Rattle.rp_grammar.specs.Trees.{DeclTree}
 use Rattle.rp_lang.specs.FirstForm.{are_distinct}
 use Rattle.rp_types.specs.Found.{is_named, slot_from, names_a_proc, are_apart}
 use Rattle.rp_types.specs.Resolution.{Name, AreDistinct, AreApart}
-use Rattle.rp_types.proofs.Parts.{both_true}
 
 same_name : (a b : Name) → pointwise nat_eq a b ≡ true → a ≡ b
 same_name a b t = (bytes_eq-Decides a b).0 t

@@ -84,12 +84,7 @@ fn end_of(block: &Block) -> Span
 }
 
 /// The procedure with this body.
-fn proc_with(
-    alloc: Global,
-    at: Span,
-    proc: &ProcNode,
-    body: List<Stmt>,
-) -> Result<ProcDecl, Memory>
+fn proc_with(alloc: Global, at: Span, proc: &ProcNode, body: List<Stmt>) -> Result<ProcDecl, Memory>
     ensures { IfOk result (λ p. proc_view p ≡ spec.proc_with proc.now.name.text at (tree.params_view proc.now.params) (tree.block_view proc.now.body) (stmts_view body)) }
 {
     let count = proc.params.len();
@@ -104,12 +99,7 @@ fn proc_with(
     })
 }
 
-fn procedure(
-    alloc: Global,
-    decls: &[Decl],
-    at: Span,
-    proc: &ProcNode,
-) -> Result<ProcDecl, Stop>
+fn procedure(alloc: Global, decls: &[Decl], at: Span, proc: &ProcNode) -> Result<ProcDecl, Stop>
     ensures found { IfOk result (λ p. spec.proc_for (tree.decls_view decls.now) at (tree.proc_view proc.now) ≡ Some (proc_view p)) }
     ensures none { IsErrOf result Stop.NotFirst → spec.proc_for (tree.decls_view decls.now) at (tree.proc_view proc.now) ≡ None }
 {

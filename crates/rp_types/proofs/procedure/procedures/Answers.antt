@@ -13,8 +13,8 @@ loop-decl-preserved c =
     let procs = c.loop-decl.procs in
     let proc = c.in_ok-declared.field-0 in
     one_more ◌∷◌ (λ d. spec.decl_for seen (tree.decl_view d)) (λ ds. spec.procs_for seen (tree.decls_view ds)) (λ d ds. refl) (spec.procs_for seen seen) decls c.loop-decl.decl-index c.decl-item.result
-      (map proc_view procs) (map proc_view c.push.new.self) (proc_view proc) c.loop-decl-test.true c.decl-item.is c.in_ok-declared.ensures.found
-      (pushed_map proc_view procs c.push.new.self proc c.in_ok-push.ensures.ok) c.loop-decl.invariant
+    (map proc_view procs) (map proc_view c.push.new.self) (proc_view proc) c.loop-decl-test.true c.decl-item.is c.in_ok-declared.ensures.found
+    (pushed_map proc_view procs c.push.new.self proc c.in_ok-push.ensures.ok) c.loop-decl.invariant
 
 pub returns-clause-found : goal.returns-clause-found
 returns-clause-found c =
@@ -22,6 +22,6 @@ returns-clause-found c =
     let seen = tree.decls_view decls in
     let procs = map proc_view c.loop-decl.procs in
     procs_within decls procs c.if-decls-gt-PROCEDURES.false
-      (all_found ◌∷◌ (λ d. spec.decl_for seen (tree.decl_view d)) (λ ds. spec.procs_for seen (tree.decls_view ds)) (λ d ds. refl) (spec.procs_for seen seen) decls c.loop-decl.decl-index
-         procs [] c.loop-decl-test.false refl c.loop-decl.invariant
-       ∙ ap Some (procs_before procs))
+    (all_found ◌∷◌ (λ d. spec.decl_for seen (tree.decl_view d)) (λ ds. spec.procs_for seen (tree.decls_view ds)) (λ d ds. refl) (spec.procs_for seen seen) decls c.loop-decl.decl-index
+    procs [] c.loop-decl-test.false refl c.loop-decl.invariant
+    ∙ ap Some (procs_before procs))
