@@ -5,6 +5,8 @@ use Rattle.std.specs.List.{list_all, list_any}
 use Rattle.std.specs.Option.{option_map}
 use Rattle.rp_span.specs.declared.Span.{Span}
 use Rattle.rp_value.specs.declared.tables.Ty.TheVariants.{Datatype}
+use Rattle.rp_ast.specs.declared.ty.Param.{Param}
+use Rattle.rp_ast.specs.View.{params_view}
 use Rattle.rp_grammar.specs.Trees.{ident, ExprTree, ExprForm, ExprTrees, AccessTree, StepTrees, ArgTrees, TypeTree, ParamTree, BlockTree, StmtTree, StmtForm, StmtTrees, ElseTree, ProcTree, DeclTree, DeclForm}
 use Rattle.rp_lang.specs.Exprs.{Slot}
 use Rattle.rp_lang.specs.FirstForm.{are_distinct}
@@ -33,6 +35,10 @@ param_name (ParamTree.param (ident n s) t) = n
 -- the names of parameters, which are the variables of a procedure, by slot
 abbrev pub scope_of : List ParamTree → List Name
 scope_of params = map param_name params
+
+-- the same of the code's parameters
+abbrev pub scope_view : List Param → List Name
+scope_view params = scope_of (params_view params)
 
 abbrev pub is_named : Name → List Name → Bool
 is_named n names = list_any (pointwise nat_eq n) names

@@ -1,6 +1,7 @@
 //! Formulas.
 //!
-//! A formula that is kept while more is found stands in a box or in a list: to drop a bare one takes code for each of its variants.
+//! A formula that is kept while more is found stands in a box or in a list: to drop a bare one
+//! takes code for each of its variants.
 
 ghost use Rattle.std.specs.Prelude.{◌≡◌, Some, None, IfOk, IsErrOf};
 ghost use Rattle.rp_ast.specs.View as tree;
@@ -19,8 +20,11 @@ impl<'a> Scope<'a> {
     /// The formula of an expression.
     #[cycle(formulas)]
     pub(crate) fn formula(&self, e: &ExprNode) -> Result<Formula, Stop>
-        ensures found { IfOk result (λ f. spec.formula_for (spec.scope_of (tree.params_view self.now.params.now)) (tree.expr_view e.now) ≡ Some (formula_view f)) }
-        ensures none { IsErrOf result Stop.NotFirst → spec.formula_for (spec.scope_of (tree.params_view self.now.params.now)) (tree.expr_view e.now) ≡ None }
+        ensures found { IfOk result
+            (λ f. spec.formula_for (spec.scope_view self.now.params.now) (tree.expr_view e.now)
+            ≡ Some (formula_view f)) }
+        ensures none { IsErrOf result Stop.NotFirst
+            → spec.formula_for (spec.scope_view self.now.params.now) (tree.expr_view e.now) ≡ None }
     {
         match &e.what {
             ExprForm::Implies(left, right) => {
@@ -54,8 +58,12 @@ impl<'a> Scope<'a> {
 
     #[cycle(formulas)]
     fn formulas(&self, parts: &[ExprNode]) -> Result<List<Formula>, Stop>
-        ensures found { IfOk result (λ fs. spec.formulas_for (spec.scope_of (tree.params_view self.now.params.now)) (tree.exprs_view parts.now) ≡ Some (formulas_view fs)) }
-        ensures none { IsErrOf result Stop.NotFirst → spec.formulas_for (spec.scope_of (tree.params_view self.now.params.now)) (tree.exprs_view parts.now) ≡ None }
+        ensures found { IfOk result
+            (λ fs. spec.formulas_for (spec.scope_view self.now.params.now) (tree.exprs_view parts.now)
+            ≡ Some (formulas_view fs)) }
+        ensures none { IsErrOf result Stop.NotFirst
+            → spec.formulas_for (spec.scope_view self.now.params.now) (tree.exprs_view parts.now)
+            ≡ None }
     {
         let mut found = List::new(self.alloc);
         for part in parts {

@@ -9,7 +9,7 @@ use rp_ast::{Decl, DeclForm, Param};
 
 /// Whether one of the parameters has the name.
 fn is_named(params: &[Param], name: &[u8]) -> bool
-    ensures { result ≡ spec.is_named name.now (spec.scope_of (params_view params.now)) }
+    ensures { result ≡ spec.is_named name.now (spec.scope_view params.now) }
 {
     for param in params {
         if name == param.name.text.as_slice() {
@@ -21,7 +21,7 @@ fn is_named(params: &[Param], name: &[u8]) -> bool
 
 /// Whether no two parameters have the same name.
 pub(crate) fn are_distinct(params: &[Param]) -> bool
-    ensures { result ≡ first.are_distinct (spec.scope_of (params_view params.now)) }
+    ensures { result ≡ first.are_distinct (spec.scope_view params.now) }
 {
     let mut left = params;
     while let [first, rest @ ..] = left {
@@ -61,7 +61,7 @@ fn names_a_proc(decls: &[Decl], name: &[u8]) -> bool
 
 /// Whether no parameter has the name of a procedure.
 pub(crate) fn are_apart(params: &[Param], decls: &[Decl]) -> bool
-    ensures { result ≡ spec.are_apart (decls_view decls.now) (spec.scope_of (params_view params.now)) }
+    ensures { result ≡ spec.are_apart (decls_view decls.now) (spec.scope_view params.now) }
 {
     for param in params {
         if names_a_proc(decls, param.name.text.as_slice()) {

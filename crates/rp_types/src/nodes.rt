@@ -63,7 +63,8 @@ pub(crate) fn branching(
     body: List<Stmt>,
     otherwise: List<Stmt>,
 ) -> Stmt
-    ensures { stmt_view result ≡ st.If at (formula_view condition) (stmts_view body) (stmts_view otherwise) }
+    ensures { stmt_view result
+        ≡ st.If at (formula_view condition) (stmts_view body) (stmts_view otherwise) }
 {
     Stmt {
         at,

@@ -52,7 +52,8 @@ fn are_bool(params: &[Param]) -> bool
 
 /// Whether it has parameters of the first form, among these procedures, and no result.
 fn has_first_head(decls: &[Decl], proc: &ProcNode) -> bool
-    ensures { result ≡ spec.has_first_head (tree.decls_view decls.now) (tree.params_view proc.now.params) (tree.optional tree.type_view proc.now.result) }
+    ensures { result ≡ spec.has_first_head (tree.decls_view decls.now)
+        (tree.params_view proc.now.params) (tree.optional tree.type_view proc.now.result) }
 {
     proc.params.len() <= PARAMETERS
         && proc.result.is_none()
@@ -85,7 +86,8 @@ fn end_of(block: &Block) -> Span
 
 /// The procedure with this body.
 fn proc_with(alloc: Global, at: Span, proc: &ProcNode, body: List<Stmt>) -> Result<ProcDecl, Memory>
-    ensures { IfOk result (λ p. proc_view p ≡ spec.proc_with proc.now.name.text at (tree.params_view proc.now.params) (tree.block_view proc.now.body) (stmts_view body)) }
+    ensures { IfOk result (λ p. proc_view p ≡ spec.proc_with proc.now.name.text at
+        (tree.params_view proc.now.params) (tree.block_view proc.now.body) (stmts_view body)) }
 {
     let count = proc.params.len();
     Ok(ProcDecl {
@@ -100,8 +102,11 @@ fn proc_with(alloc: Global, at: Span, proc: &ProcNode, body: List<Stmt>) -> Resu
 }
 
 fn procedure(alloc: Global, decls: &[Decl], at: Span, proc: &ProcNode) -> Result<ProcDecl, Stop>
-    ensures found { IfOk result (λ p. spec.proc_for (tree.decls_view decls.now) at (tree.proc_view proc.now) ≡ Some (proc_view p)) }
-    ensures none { IsErrOf result Stop.NotFirst → spec.proc_for (tree.decls_view decls.now) at (tree.proc_view proc.now) ≡ None }
+    ensures found { IfOk result
+        (λ p. spec.proc_for (tree.decls_view decls.now) at (tree.proc_view proc.now)
+        ≡ Some (proc_view p)) }
+    ensures none { IsErrOf result Stop.NotFirst
+        → spec.proc_for (tree.decls_view decls.now) at (tree.proc_view proc.now) ≡ None }
 {
     if !has_first_head(decls, proc) {
         return Err(Stop::NotFirst);
@@ -116,8 +121,11 @@ fn procedure(alloc: Global, decls: &[Decl], at: Span, proc: &ProcNode) -> Result
 
 /// The procedure of a declaration.
 fn declared(alloc: Global, decls: &[Decl], decl: &Decl) -> Result<ProcDecl, Stop>
-    ensures found { IfOk result (λ p. spec.decl_for (tree.decls_view decls.now) (tree.decl_view decl.now) ≡ Some (proc_view p)) }
-    ensures none { IsErrOf result Stop.NotFirst → spec.decl_for (tree.decls_view decls.now) (tree.decl_view decl.now) ≡ None }
+    ensures found { IfOk result
+        (λ p. spec.decl_for (tree.decls_view decls.now) (tree.decl_view decl.now)
+        ≡ Some (proc_view p)) }
+    ensures none { IsErrOf result Stop.NotFirst
+        → spec.decl_for (tree.decls_view decls.now) (tree.decl_view decl.now) ≡ None }
 {
     match &decl.what {
         DeclForm::Proc(proc) => procedure(alloc, decls, decl.span, proc),
@@ -132,8 +140,10 @@ fn declared(alloc: Global, decls: &[Decl], decl: &Decl) -> Result<ProcDecl, Stop
 
 /// The procedures of declarations.
 pub(crate) fn procedures(alloc: Global, decls: &[Decl]) -> Result<List<ProcDecl>, Stop>
-    ensures found { IfOk result (λ procs. spec.procs_of (tree.decls_view decls.now) ≡ Some (map proc_view procs)) }
-    ensures none { IsErrOf result Stop.NotFirst → spec.procs_of (tree.decls_view decls.now) ≡ None }
+    ensures found { IfOk result
+        (λ procs. spec.procs_of (tree.decls_view decls.now) ≡ Some (map proc_view procs)) }
+    ensures none { IsErrOf result Stop.NotFirst
+        → spec.procs_of (tree.decls_view decls.now) ≡ None }
 {
     if decls.len() > PROCEDURES {
         return Err(Stop::NotFirst);

@@ -11,12 +11,15 @@ use rp_lang::Program;
 use rp_value::Memory;
 use std::alloc::Global;
 
-/// The program of a tree of the first form, procedures over truth values with `assert` and `if` alone.
+/// The program of a tree of the first form: procedures over truth values with `assert` and `if`
+/// alone.
 ///
 /// `None` says that the tree is not of that form, or that its program passes a limit.
 pub fn first_program(alloc: Global, ast: &Ast) -> Result<Option<Program>, Memory>
-    ensures program { IfOk result (λ found. IfSome found (λ p. IsProgramOf (ast_view ast.now) (program_view p))) }
-    ensures none { IfOk result (λ found. IfNone found ((p : Prog) → IsProgramOf (ast_view ast.now) p → ⊥)) }
+    ensures program { IfOk result (λ found. IfSome found
+        (λ p. IsProgramOf (ast_view ast.now) (program_view p))) }
+    ensures none { IfOk result (λ found. IfNone found
+        ((p : Prog) → IsProgramOf (ast_view ast.now) p → ⊥)) }
 {
     match procedures(alloc, ast.decls.as_slice()) {
         Ok(procs) => Program::first_form(alloc, procs),

@@ -21,7 +21,7 @@ pub(crate) struct Scope<'a> {
 impl<'a> Scope<'a> {
     /// The slot of the variable with this name.
     fn slot(&self, name: &[u8]) -> Option<u32>
-        ensures { result ≡ spec.slot_from 0 (spec.scope_of (tree.params_view self.now.params.now)) name.now }
+        ensures { result ≡ spec.slot_from 0 (spec.scope_view self.now.params.now) name.now }
     {
         for (slot, param) in self.params.as_slice().iter().enumerate() {
             if name == param.name.text.as_slice() {
@@ -34,8 +34,12 @@ impl<'a> Scope<'a> {
     /// The variable that is accessed, with nothing behind its name.
     #[tactic(auto, using(rp_ast::proofs::ExprViews::expr_views))]
     pub(crate) fn variable(&self, access: &AccessNode) -> Result<Formula, Stop>
-        ensures found { IfOk result (λ f. spec.access_for (spec.scope_of (tree.params_view self.now.params.now)) (tree.access_view access.now) ≡ Some (formula_view f)) }
-        ensures none { IsErrOf result Stop.NotFirst → spec.access_for (spec.scope_of (tree.params_view self.now.params.now)) (tree.access_view access.now) ≡ None }
+        ensures found { IfOk result
+            (λ f. spec.access_for (spec.scope_view self.now.params.now) (tree.access_view access.now)
+            ≡ Some (formula_view f)) }
+        ensures none { IsErrOf result Stop.NotFirst
+            → spec.access_for (spec.scope_view self.now.params.now) (tree.access_view access.now)
+            ≡ None }
     {
         if !access.steps.is_empty() || access.args.is_some() {
             return Err(Stop::NotFirst);

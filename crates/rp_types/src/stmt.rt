@@ -16,8 +16,11 @@ use rp_value::{Boxed, List};
 impl<'a> Scope<'a> {
     #[cycle(stmts)]
     fn stmt(&self, stmt: &StmtNode) -> Result<Stmt, Stop>
-        ensures found { IfOk result (λ st. spec.stmt_for (spec.scope_of (tree.params_view self.now.params.now)) (tree.stmt_view stmt.now) ≡ Some (stmt_view st)) }
-        ensures none { IsErrOf result Stop.NotFirst → spec.stmt_for (spec.scope_of (tree.params_view self.now.params.now)) (tree.stmt_view stmt.now) ≡ None }
+        ensures found { IfOk result
+            (λ st. spec.stmt_for (spec.scope_view self.now.params.now) (tree.stmt_view stmt.now)
+            ≡ Some (stmt_view st)) }
+        ensures none { IsErrOf result Stop.NotFirst
+            → spec.stmt_for (spec.scope_view self.now.params.now) (tree.stmt_view stmt.now) ≡ None }
     {
         match &stmt.what {
             StmtForm::Assert(condition) => {
@@ -43,16 +46,24 @@ impl<'a> Scope<'a> {
     /// The statements of a block.
     #[cycle(stmts)]
     pub(crate) fn block(&self, block: &Block) -> Result<List<Stmt>, Stop>
-        ensures found { IfOk result (λ sts. spec.block_for (spec.scope_of (tree.params_view self.now.params.now)) (tree.block_view block.now) ≡ Some (stmts_view sts)) }
-        ensures none { IsErrOf result Stop.NotFirst → spec.block_for (spec.scope_of (tree.params_view self.now.params.now)) (tree.block_view block.now) ≡ None }
+        ensures found { IfOk result
+            (λ sts. spec.block_for (spec.scope_view self.now.params.now) (tree.block_view block.now)
+            ≡ Some (stmts_view sts)) }
+        ensures none { IsErrOf result Stop.NotFirst
+            → spec.block_for (spec.scope_view self.now.params.now) (tree.block_view block.now)
+            ≡ None }
     {
         self.stmts(block.stmts.as_slice())
     }
 
     #[cycle(stmts)]
     fn stmts(&self, stmts: &[StmtNode]) -> Result<List<Stmt>, Stop>
-        ensures found { IfOk result (λ sts. spec.stmts_for (spec.scope_of (tree.params_view self.now.params.now)) (tree.stmts_view stmts.now) ≡ Some (stmts_view sts)) }
-        ensures none { IsErrOf result Stop.NotFirst → spec.stmts_for (spec.scope_of (tree.params_view self.now.params.now)) (tree.stmts_view stmts.now) ≡ None }
+        ensures found { IfOk result
+            (λ sts. spec.stmts_for (spec.scope_view self.now.params.now) (tree.stmts_view stmts.now)
+            ≡ Some (stmts_view sts)) }
+        ensures none { IsErrOf result Stop.NotFirst
+            → spec.stmts_for (spec.scope_view self.now.params.now) (tree.stmts_view stmts.now)
+            ≡ None }
     {
         let mut found = List::new(self.alloc);
         for stmt in stmts {
@@ -64,8 +75,14 @@ impl<'a> Scope<'a> {
     /// The statements behind a block.
     #[cycle(stmts)]
     fn otherwise(&self, otherwise: &Option<ElseNode>) -> Result<List<Stmt>, Stop>
-        ensures found { IfOk result (λ sts. spec.else_for (spec.scope_of (tree.params_view self.now.params.now)) (tree.maybe_else_view otherwise.now) ≡ Some (stmts_view sts)) }
-        ensures none { IsErrOf result Stop.NotFirst → spec.else_for (spec.scope_of (tree.params_view self.now.params.now)) (tree.maybe_else_view otherwise.now) ≡ None }
+        ensures found { IfOk result
+            (λ sts. spec.else_for (spec.scope_view self.now.params.now)
+            (tree.maybe_else_view otherwise.now)
+            ≡ Some (stmts_view sts)) }
+        ensures none { IsErrOf result Stop.NotFirst
+            → spec.else_for (spec.scope_view self.now.params.now)
+            (tree.maybe_else_view otherwise.now)
+            ≡ None }
     {
         match otherwise {
             None => Ok(List::new(self.alloc)),
