@@ -15,7 +15,7 @@ use Rattle.rp_grammar.specs.Texts.{HasToks, IsTextWithin, StandsAt}
 use Rattle.rp_grammar.proofs.Unique.{one_lexing}
 use Rattle.rp_lang.specs.Programs.{Proc, Prog}
 use Rattle.rp_types.specs.FirstProgram.{IsProgramOf}
-use Rattle.rp_types.proofs.OneProgram as programs
+use Rattle.rp_types.proofs.FoundProgram.{only_program}
 use Rattle.rp_verify.specs.Verdicts.{proc_paths, HasFewPaths, IsPast, IsWithinLimits}
 use Rattle.rp_verify.specs.declared.verdict.GoalErr.{GoalErr}
 use Rattle.rp_verify.specs.declared.verdict.GoalErr.TheVariants as err
@@ -84,5 +84,5 @@ past_text {p = p} short (t, text, is) past = record {
   short = short;
   tree = t;
   text = text;
-  other = λ q first. past (subst IsWithinLimits (sym (programs.one_program t p q is (subst (λ t. IsProgramOf t q) (one_tree first.text text) first.program))) first.within);
+  other = λ q first. past (subst IsWithinLimits (sym (only_program t p q is (subst (λ t. IsProgramOf t q) (one_tree first.text text) first.program))) first.within);
 }

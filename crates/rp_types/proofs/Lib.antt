@@ -1,1 +1,10 @@
 pub mod Tautology
+pub mod Parts
+pub mod NameLemmas
+pub mod FoundFormulas
+pub mod FoundStmts
+pub mod FoundProcs
+pub mod FoundProgram
+pub mod Gathered
+pub mod Accesses
+pub mod Answered

@@ -1,6 +1,6 @@
 -- The program of the tautology's tree.
 use Rattle.std.proofs.Common.{ℕ, zero, suc, ◌<◌, List, [], ◌∷◌, ◌≡◌, codes, get_or, refl, ap, arith}
-use Rattle.rp_types.specs.Resolution.{IsProcOf, ProcsOf, no_proc, more_procs, ParamsOf, no_param, more_params, TypeOf, bool, BlockOf, block, StmtsOf, no_stmt, more_stmts, StmtOf, assert, FormulaOf, variable, not, or, FormulasOf, no_formula, more_formulas}
+use Rattle.rp_types.specs.Resolution.{no_proc, more_procs, no_param, more_params, bool, block, no_stmt, more_stmts, assert, variable, not, or, no_formula, more_formulas}
 use Rattle.rp_types.specs.Rows.{HasProgram}
 
 none_other : (k : ℕ) → k < 0 → ⊥

@@ -1,5 +1,5 @@
 -- The first form: trees of procedures over truth values, with `assert` and `if` alone. Which names stand where is for the resolution.
-use Rattle.std.specs.Prelude.{Bool, true, false, ◌&&◌, nat_le, List, [], ◌∷◌, length, Option, None, Some}
+use Rattle.std.specs.Prelude.{Bool, true, false, ◌&&◌, nat_le, List, length, None, Some}
 use Rattle.std.specs.List.{list_all}
 use Rattle.rp_grammar.specs.Trees.{ExprTree, ExprForm, ExprTrees, AccessTree, StepTrees, ArgTrees, TypeTree, TypeForm, ParamTree, BlockTree, StmtTree, StmtForm, StmtTrees, ElseTree, ProcTree, DeclTree, DeclForm}
 

@@ -1,13 +1,13 @@
 -- The program of a tree, a line for each form of the tree. Forms that have no line yet have no program yet.
-use Rattle.std.specs.Prelude.{◌≡◌, ℕ, ◌-◌, Bool, true, false, List, [], ◌∷◌, Contains, map, Option, Some, None, slice_get}
+use Rattle.std.specs.Prelude.{◌≡◌, ℕ, ◌-◌, Bool, true, false, List, [], ◌∷◌, Contains, map, Some, None, slice_get}
 use Rattle.rp_span.specs.declared.Span.{Span}
 use Rattle.rp_value.specs.declared.tables.Ty.{Ty}
 use Rattle.rp_value.specs.declared.tables.Ty.TheVariants.{Datatype}
-use Rattle.rp_grammar.specs.Trees.{Ident, ident, ExprTree, ExprForm, ExprTrees, AccessTree, StepTrees, ArgTrees, TypeTree, TypeForm, ParamTree, BlockTree, StmtTree, StmtForm, StmtTrees, ElseTree, ProcTree, DeclTree, DeclForm}
+use Rattle.rp_grammar.specs.Trees.{ident, ExprTree, ExprForm, ExprTrees, AccessTree, StepTrees, ArgTrees, TypeTree, TypeForm, ParamTree, BlockTree, StmtTree, StmtForm, StmtTrees, ElseTree, ProcTree, DeclTree, DeclForm}
 use Rattle.rp_lang.specs.Exprs.{Ex, Slot, Con, no_ex}
 use Rattle.rp_lang.specs.Formulas.{Fo, Fos, And, Or, Not, Implies, Holds, no_fo, also_fo}
 use Rattle.rp_lang.specs.Stmts.{St, Sts, Assert, If, no_st, also_st}
-use Rattle.rp_lang.specs.Programs.{Proc, Prog}
+use Rattle.rp_lang.specs.Programs.{Proc}
 
 -- a name's bytes
 abbrev pub Name : Type 0

@@ -1,6 +1,17 @@
 //! Names, types and desugaring: which program a tree is.
 #![tactic(auto)]
 
+mod formula;
 mod laws;
+mod names;
+mod nodes;
+mod procedure;
+mod program;
+mod scope;
+mod stmt;
+mod stop;
+#[cfg(test)]
+mod tests;
 
-pub use laws::worked_rows;
+pub use laws::{one_program, worked_rows};
+pub use program::first_program;

@@ -1,0 +1,74 @@
+//! Formulas.
+//!
+//! A formula that is kept while more is found stands in a box or in a list: to drop a bare one
+//! takes code for each of its variants.
+
+ghost use Rattle.std.specs.Prelude.{◌≡◌, Some, None, IfOk, IsErrOf};
+ghost use Rattle.rp_ast.specs.View as tree;
+ghost use Rattle.rp_lang.specs.Views.{formula_view, formulas_view};
+ghost use Rattle.rp_types.specs.Found as spec;
+
+use crate::nodes::{conjunction, disjunction, implication, negation, truth};
+use crate::scope::Scope;
+use crate::stop::Stop;
+use rp_ast::{ExprForm, ExprNode};
+use rp_lang::Formula;
+use rp_value::{Boxed, List};
+
+#[tactic(auto, using(rp_ast::proofs::ExprViews::expr_views))]
+impl<'a> Scope<'a> {
+    /// The formula of an expression.
+    #[cycle(formulas)]
+    pub(crate) fn formula(&self, e: &ExprNode) -> Result<Formula, Stop>
+        ensures found { IfOk result
+            (λ f. spec.formula_for (spec.scope_view self.now.params.now) (tree.expr_view e.now)
+            ≡ Some (formula_view f)) }
+        ensures none { IsErrOf result Stop.NotFirst
+            → spec.formula_for (spec.scope_view self.now.params.now) (tree.expr_view e.now) ≡ None }
+    {
+        match &e.what {
+            ExprForm::Implies(left, right) => {
+                let left = Boxed::new(self.alloc, self.formula(left.get())?)?;
+                let right = Boxed::new(self.alloc, self.formula(right.get())?)?;
+                Ok(implication(left, right))
+            }
+            ExprForm::Or(parts) => Ok(disjunction(self.formulas(parts.as_slice())?)),
+            ExprForm::And(parts) => Ok(conjunction(self.formulas(parts.as_slice())?)),
+            ExprForm::Not(inside) => Ok(negation(Boxed::new(
+                self.alloc,
+                self.formula(inside.get())?,
+            )?)),
+            ExprForm::Truth(value) => Ok(truth(self.alloc, *value)),
+            ExprForm::Access(access) => self.variable(access),
+            ExprForm::Forall(_, _)
+            | ExprForm::Exists(_, _)
+            | ExprForm::Compare(_, _, _)
+            | ExprForm::Plus(_, _)
+            | ExprForm::Minus(_, _)
+            | ExprForm::Int(_)
+            | ExprForm::Str(_)
+            | ExprForm::NoneWord
+            | ExprForm::SomeOf(_)
+            | ExprForm::Unreturned
+            | ExprForm::Tx
+            | ExprForm::Call(_, _)
+            | ExprForm::Match(_, _) => Err(Stop::NotFirst),
+        }
+    }
+
+    #[cycle(formulas)]
+    fn formulas(&self, parts: &[ExprNode]) -> Result<List<Formula>, Stop>
+        ensures found { IfOk result
+            (λ fs. spec.formulas_for (spec.scope_view self.now.params.now) (tree.exprs_view parts.now)
+            ≡ Some (formulas_view fs)) }
+        ensures none { IsErrOf result Stop.NotFirst
+            → spec.formulas_for (spec.scope_view self.now.params.now) (tree.exprs_view parts.now)
+            ≡ None }
+    {
+        let mut found = List::new(self.alloc);
+        for part in parts {
+            found.push(self.formula(part)?)?;
+        }
+        Ok(found)
+    }
+}
