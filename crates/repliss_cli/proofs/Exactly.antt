@@ -11,7 +11,7 @@ use Rattle.repliss_cli.specs.declared.report.Status.{Status}
 use Rattle.repliss_cli.specs.declared.report.Status.TheVariants.{Fine, Found, Refused, ReadFault, WriteFault, NoMemory}
 use Rattle.repliss_cli.specs.Words.{Words, named}
 use Rattle.repliss_cli.specs.Texts.{report_text, status_of}
-use Rattle.repliss_cli.specs.Answers.{OnContent, OnName, IsReportOf, HasCause, AreTold, Tells, IsAnswer}
+use Rattle.repliss_cli.specs.Answers.{OnContent, OnName, IsReportOf, HasCause, AreTold, Tells}
 use Rattle.repliss_cli.proofs.Reports.{one_report}
 
 -- what the words ask for: the usage, or the report on a content
@@ -50,24 +50,20 @@ one_asked {told = told} {r = r} {s = s} (file {name = name} {content = content} 
     let contents : content ≡ more = let at : content_of told name ≡ Some more = subst (λ name. content_of told name ≡ Some more) (sym names) there in cc in
     one_report content r s h (subst (λ content. IsReportOf content s) (sym contents) g)
 
-pub exactly : (words : Words) (told : Option Contents) (status : Status) (old new : Option (List ℕ)) (report : Report)
-    → (status ≡ Fine → IsAnswer words told status old new) → (status ≡ Found → IsAnswer words told status old new) → (status ≡ Refused → IsAnswer words told status old new)
+same_put : (words : Words) (told : Option Contents) (status : Status) (old new : Option (List ℕ)) (made report : Report)
+    → HasCause words told made → (status ≡ status_of made) × Puts old new (report_text made) → AreTold words told → HasCause words told report
+    → (status ≡ status_of report) × Puts old new (report_text report)
+same_put words told status old new made report cause put are also =
+    let same : made ≡ report = one_asked (asked words told made are cause) (asked words told report are also) in
+    subst (λ r. (status ≡ status_of r) × Puts old new (report_text r)) same put
+
+-- the report that was made, and put whole but for a fault or want of memory, is the one with its cause
+pub exactly : (words : Words) (told : Option Contents) (status : Status) (old new : Option (List ℕ)) (made report : Report)
+    → HasCause words told made → ((status ≡ WriteFault → ⊥) → (status ≡ NoMemory → ⊥) → (status ≡ status_of made) × Puts old new (report_text made))
     → AreTold words told → HasCause words told report → Tells report status old new
-exactly words told Fine old new report fine found refused are cause = told_of (fine refl)
-  where
-    told_of : IsAnswer words told Fine old new → Tells report Fine old new
-    told_of a = let same : a.report ≡ report = one_asked (asked words told a.report are a.cause) (asked words told report are cause) in
-        (a.answered ∙ ap status_of same, subst (λ r. Puts old new (report_text r)) same a.put)
-exactly words told Found old new report fine found refused are cause = told_of (found refl)
-  where
-    told_of : IsAnswer words told Found old new → Tells report Found old new
-    told_of a = let same : a.report ≡ report = one_asked (asked words told a.report are a.cause) (asked words told report are cause) in
-        (a.answered ∙ ap status_of same, subst (λ r. Puts old new (report_text r)) same a.put)
-exactly words told Refused old new report fine found refused are cause = told_of (refused refl)
-  where
-    told_of : IsAnswer words told Refused old new → Tells report Refused old new
-    told_of a = let same : a.report ≡ report = one_asked (asked words told a.report are a.cause) (asked words told report are cause) in
-        (a.answered ∙ ap status_of same, subst (λ r. Puts old new (report_text r)) same a.put)
-exactly words told ReadFault old new report fine found refused are cause = tt
-exactly words told WriteFault old new report fine found refused are cause = tt
-exactly words told NoMemory old new report fine found refused are cause = tt
+exactly words told Fine old new made report cause whole are also = same_put words told Fine old new made report cause (whole (λ e. cc) (λ e. cc)) are also
+exactly words told Found old new made report cause whole are also = same_put words told Found old new made report cause (whole (λ e. cc) (λ e. cc)) are also
+exactly words told Refused old new made report cause whole are also = same_put words told Refused old new made report cause (whole (λ e. cc) (λ e. cc)) are also
+exactly words told ReadFault old new made report cause whole are also = tt
+exactly words told WriteFault old new made report cause whole are also = tt
+exactly words told NoMemory old new made report cause whole are also = tt

@@ -1,5 +1,6 @@
 -- Refusals of a text, from what its tokens and its tree are.
-use Rattle.std.proofs.Common.{◌≡◌, ℕ, zero, suc, ◌+◌, ◌<◌, ◌≤◌, List, [], ◌∷◌, length, Some, slice_get, All, refl, sym, ap, subst, ◌∙◌, arith, ◌⊎◌, inl, inr}
+use Rattle.std.proofs.Common.{◌≡◌, ℕ, zero, suc, ◌+◌, ◌<◌, ◌≤◌, List, [], ◌∷◌, length, Option, None, Some, slice_get, All, refl, sym, ap, subst, ◌∙◌, arith, ◌⊎◌, inl, inr}
+use Rattle.std.specs.Option.{IfNone}
 use Rattle.std.proofs.lemmas.List.Elements.{All-head, All-tail}
 use Rattle.rp_span.specs.declared.Span.{Span}
 use Rattle.rp_span.specs.declared.Pos.{Pos}
@@ -13,9 +14,13 @@ use Rattle.rp_grammar.specs.Trees.{DeclTree}
 use Rattle.rp_grammar.specs.Begins.{IsFirstBad, IsTooDeep}
 use Rattle.rp_grammar.specs.Texts.{HasToks, IsTextWithin, StandsAt}
 use Rattle.rp_grammar.proofs.Unique.{one_lexing}
+use Rattle.rp_lang.specs.declared.program.Program.{Program}
 use Rattle.rp_lang.specs.Programs.{Proc, Prog}
 use Rattle.rp_types.specs.FirstProgram.{IsProgramOf}
 use Rattle.rp_types.proofs.FoundProgram.{only_program}
+use Rattle.rp_parser.specs.Answers.{IsFault}
+use Rattle.rp_parser.specs.declared.error.ParseErr.{ParseErr}
+use Rattle.rp_parser.specs.declared.error.ParseErr.TheVariants as parse_err
 use Rattle.rp_verify.specs.Verdicts.{proc_paths, HasFewPaths, IsPast, IsWithinLimits}
 use Rattle.rp_verify.specs.declared.verdict.GoalErr.{GoalErr}
 use Rattle.rp_verify.specs.declared.verdict.GoalErr.TheVariants as err
@@ -36,6 +41,13 @@ stands (suc k) (toks.ToksOf.more is rest) found = stands k rest found
 
 lexed_as : {content : List ℕ} {ts rs : List Token} {us : List Tok} → Lexed 0 content ts → Lexed 0 content rs → ToksOf content rs us → ToksOf content ts us
 lexed_as {content = content} {us = us} lexed also of = subst (λ ts. ToksOf content ts us) (one_lexing also lexed) of
+
+-- what the parser names
+pub bad_token : {bytes content : List ℕ} {e : ParseErr} {k : ℕ} → bytes ≡ content → e ≡ parse_err.Syntax k → IsFault bytes e → (us : List Tok) × HasToks content us × IsFirstBad 64 us k
+bad_token {content = content} {e = e} same is fault = subst (λ e. IsFault content e) is (subst (λ bytes. IsFault bytes e) same fault)
+
+pub deep_token : {bytes content : List ℕ} {e : ParseErr} {k : ℕ} → bytes ≡ content → e ≡ parse_err.TooDeep k → IsFault bytes e → (us : List Tok) × HasToks content us × IsTooDeep 64 us k
+deep_token {content = content} {e = e} same is fault = subst (λ e. IsFault content e) is (subst (λ bytes. IsFault bytes e) same fault)
 
 -- the number of a bad token is that of a token
 pub within_tokens : {content : List ℕ} {ts : List Token} {k : ℕ} → Lexed 0 content ts → (us : List Tok) × HasToks content us × IsFirstBad 64 us k → k < length ts
@@ -86,3 +98,7 @@ past_text {p = p} short (t, text, is) past = record {
   text = text;
   other = λ q first. past (subst IsWithinLimits (sym (only_program t p q is (subst (λ t. IsProgramOf t q) (one_tree first.text text) first.program))) first.within);
 }
+
+-- what is said where there is no program
+pub where_none : {found : Option Program} {P : Type 0} → found ≡ None → IfNone found P → P
+where_none {P = P} none said = subst (λ found. IfNone found P) none said

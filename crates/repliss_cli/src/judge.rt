@@ -109,9 +109,10 @@ fn report_on_tree(alloc: Global, text: &Text, ast: &Ast) -> Result<Report, Memor
     requires short { length text.now ≤ 262144 }
     ensures { IfOk result (λ report. IsReportOf text.now report) }
 {
-    match first_program(alloc, ast)? {
-        Some(program) => report_on_program(alloc, text, &program),
-        None => Ok(Report::NotYet),
+    match first_program(alloc, ast) {
+        Ok(Some(program)) => report_on_program(alloc, text, &program),
+        Ok(None) => Ok(Report::NotYet),
+        Err(Memory) => Err(Memory),
     }
 }
 

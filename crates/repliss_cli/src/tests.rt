@@ -87,7 +87,27 @@ fn puts_the_report_of_a_text(rt: HostRuntime) -> Result<(), Fail> {
         (
             "proc p(b: Bool) { assert b",
             Status::Refused,
-            "refused: not yet\n",
+            "refused: syntax at 1:27\n",
+        ),
+        (
+            "invariant a: forall u:",
+            Status::Refused,
+            "refused: syntax at 1:23\n",
+        ),
+        (
+            "proc p(b: Bool) {\n  assert b @ }",
+            Status::Refused,
+            "refused: lex bad byte at 2:12\n",
+        ),
+        (
+            "proc p(b: Bool) { assert \"b; }",
+            Status::Refused,
+            "refused: lex open string at 1:26\n",
+        ),
+        (
+            "procedure // a word that begins no declaration\n99999999999999999999",
+            Status::Refused,
+            "refused: lex number range at 2:1\n",
         ),
     ] {
         let mut files = file(alloc, text.as_bytes().to_vec(alloc)?, &[])?;
@@ -153,6 +173,23 @@ fn refuses_what_passes_a_number(rt: HostRuntime) -> Result<(), Fail> {
             "{times} times {part}"
         );
     }
+    Ok(())
+}
+
+/// An invariant behind so many parentheses.
+fn in_parentheses(alloc: Global, count: usize) -> Result<Vec<u8>, AllocError> {
+    let mut text = around(alloc, "invariant ", "(", count, "true")?;
+    text.append(&mut around(alloc, "", ")", count, ";")?)?;
+    Ok(text)
+}
+
+#[test]
+fn refuses_what_is_nested_deeper_than_64(rt: HostRuntime) -> Result<(), Fail> {
+    let alloc = rt.alloc();
+    let most = in_parentheses(alloc, 64)?;
+    assert!(rt; first_line_is(alloc, most, Status::Refused, "refused: not yet")?);
+    let past = in_parentheses(alloc, 65)?;
+    assert!(rt; first_line_is(alloc, past, Status::Refused, "refused: limit depth 64")?);
     Ok(())
 }
 

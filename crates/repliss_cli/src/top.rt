@@ -6,7 +6,7 @@ ghost use Rattle.repliss_cli.specs.declared.report.Report.{Report};
 ghost use Rattle.rp_io.specs.Sinks.{Puts, PutsPrefix};
 ghost use Rattle.repliss_cli.specs.Words.{is_option, named};
 ghost use Rattle.repliss_cli.specs.Texts.{report_text, status_of};
-ghost use Rattle.repliss_cli.specs.Answers.{HasCause, IsAnswer, IsCut, IsCutShort};
+ghost use Rattle.repliss_cli.specs.Answers.{AreTold, HasCause, IsAnswer, IsCut, IsCutShort, Tells};
 
 use crate::judge::judge;
 use crate::report::{Report, Status, lines};
@@ -89,6 +89,10 @@ pub fn run<F: Files, K: Sink>(alloc: Global, words: &[String], files: &mut F, ou
     ensures fine { result ≡ Status.Fine → IsAnswer words.now (F.told files.old) result (K.told out.old) (K.told out.new) }
     ensures found { result ≡ Status.Found → IsAnswer words.now (F.told files.old) result (K.told out.old) (K.told out.new) }
     ensures refused { result ≡ Status.Refused → IsAnswer words.now (F.told files.old) result (K.told out.old) (K.told out.new) }
+
+    // Where the file's content is told, its one report comes, unless a file or the sink fails or memory runs out.
+    ensures exact { (report : Report) → AreTold words.now (F.told files.old) → HasCause words.now (F.told files.old) report
+        → Tells report result (K.told out.old) (K.told out.new) }
 
     // A read fault is one of the file that the words name.
     ensures read_fault { result ≡ Status.ReadFault → Rose (F.faults files.old) (F.faults files.new) }

@@ -10,3 +10,6 @@ returns-in-Err-Failed-clause-some_cause g c = some_cause c.args.words.now _ c.in
 
 pub returns-in-Err-Memory-clause-some_cause : goal.returns-in-Err-Memory-clause-some_cause
 returns-in-Err-Memory-clause-some_cause g c = some_cause c.args.words.now _ c.in-Some.name.now (sym c.in-Some.ensures)
+
+pub returns-in-Err-clause-some_cause : goal.returns-in-Err-clause-some_cause
+returns-in-Err-clause-some_cause g c = some_cause c.args.words.now _ c.in-Some.name.now (sym c.in-Some.ensures)
