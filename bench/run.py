@@ -22,6 +22,15 @@ def median_ms(words, runs):
     return sorted(times)[runs // 2], done.stdout.decode().splitlines()
 
 
+def peak_kb(words):
+    """The greatest memory of a run, in KiB, as the system counts it."""
+    child = os.posix_spawn(
+        words[0], words, os.environ, file_actions=[(os.POSIX_SPAWN_OPEN, 1, os.devnull, os.O_WRONLY, 0)]
+    )
+    _, _, used = os.wait4(child, 0)
+    return used.ru_maxrss
+
+
 def long_expressions():
     """Up to 262,144 bytes of procedures with three parameters and long expressions, at most 64 procedures."""
     part = "(a ==> b || c) && !(a && !b && !c) || "
@@ -44,6 +53,26 @@ def many_assertions():
     return f"proc p({params}) {{\n" + f"  assert {claim};\n" * 200 + "}\n"
 
 
+def filled(part, tail=""):
+    """As many of the part as fit into 262,144 bytes, and then the tail."""
+    return part * ((LIMIT - len(tail)) // len(part)) + tail
+
+
+def flat():
+    """Many short declarations and statements."""
+    return filled("invariant a: u.name == \"x\";\nproc p(n: Int) { var m: Int; m = n + 1; }\n")
+
+
+def nested():
+    """Invariants behind 60 parentheses."""
+    return filled("invariant " + "(" * 60 + "true" + ")" * 60 + ";\n")
+
+
+def names():
+    """Names alone: the first is the fault, and all are tokens."""
+    return filled("a ")
+
+
 def empty_c_program(folder):
     source = os.path.join(folder, "empty.c")
     program = os.path.join(folder, "empty")
@@ -62,6 +91,9 @@ def main():
             ("the first example", "proc p(b: Bool) { assert b || !b; }\n"),
             ("long expressions", long_expressions()),
             ("8 parameters, 200 assertions", many_assertions()),
+            ("a flat text", flat()),
+            ("a deeply nested text", nested()),
+            ("a text of names", names()),
         ]
         for number, (what, text) in enumerate(texts):
             name = os.path.join(folder, f"{number}.rpl")
@@ -70,7 +102,8 @@ def main():
             rows.append((what, [PROGRAM, "verify", name], len(text)))
         for what, words, size in rows:
             ms, printed = median_ms(words, 21)
-            print(f"{what}: {ms:.2f} ms, {size} bytes, {printed[0] if printed else '-'}")
+            speed = f"{size / ms / 1000:.1f} MB/s" if size else "-"
+            print(f"{what}: {ms:.2f} ms, {size} bytes, {speed}, {peak_kb(words)} KiB, {printed[0] if printed else '-'}")
 
 
 if __name__ == "__main__":
