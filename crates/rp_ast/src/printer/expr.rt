@@ -116,7 +116,9 @@ fn put_number(out: &mut Vec<u8>, n: i128) -> Result<(), Memory>
 }
 
 fn put_vars(out: &mut Vec<u8>, vars: &[Ident]) -> Result<(), Memory>
-    ensures { OnOk result (out.new.items ≡ out.old.items ++ followed (separated symbol.Comma (map (λ n. name_terminal n ∷ []) (idents_view vars.now)))) }
+    ensures { OnOk result (out.new.items ≡ out.old.items
+        ++ followed (separated symbol.Comma
+            (map (λ n. name_terminal n ∷ []) (idents_view vars.now)))) }
 {
     for (i, v) in vars.iter().enumerate() {
         put_separator(out, Symbol::Comma, i)?;
@@ -127,7 +129,8 @@ fn put_vars(out: &mut Vec<u8>, vars: &[Ident]) -> Result<(), Memory>
 
 /// The constructor of a pattern.
 fn put_con(out: &mut Vec<u8>, n: &Ident) -> Result<(), Memory>
-    ensures { OnOk result (out.new.items ≡ out.old.items ++ followed (con_terminal (ident_view n.now) ∷ [])) }
+    ensures { OnOk result (out.new.items ≡ out.old.items
+        ++ followed (con_terminal (ident_view n.now) ∷ [])) }
 {
     put_name(out, n.text.as_slice())
 }
@@ -135,7 +138,8 @@ fn put_con(out: &mut Vec<u8>, n: &Ident) -> Result<(), Memory>
 /// The variables of a pattern, in parentheses where there are any.
 #[tactic(auto, using(crate::proofs::Appends::appends))]
 fn put_bindings(out: &mut Vec<u8>, vars: &[Ident]) -> Result<(), Memory>
-    ensures { OnOk result (out.new.items ≡ out.old.items ++ followed (vars_terminals (idents_view vars.now))) }
+    ensures { OnOk result (out.new.items ≡ out.old.items
+        ++ followed (vars_terminals (idents_view vars.now))) }
 {
     if vars.is_empty() {
         return Ok(());
@@ -147,7 +151,8 @@ fn put_bindings(out: &mut Vec<u8>, vars: &[Ident]) -> Result<(), Memory>
 
 #[tactic(auto, using(crate::proofs::Appends::appends))]
 pub fn put_pattern(out: &mut Vec<u8>, p: &PatternNode) -> Result<(), Memory>
-    ensures { OnOk result (out.new.items ≡ out.old.items ++ followed (pattern_terminals (pattern_view p.now))) }
+    ensures { OnOk result (out.new.items ≡ out.old.items
+        ++ followed (pattern_terminals (pattern_view p.now))) }
 {
     put_con(out, &p.con)?;
     put_bindings(out, p.vars.as_slice())
@@ -156,7 +161,9 @@ pub fn put_pattern(out: &mut Vec<u8>, p: &PatternNode) -> Result<(), Memory>
 /// A quantifier up to its body.
 #[tactic(auto, using(crate::proofs::Appends::appends))]
 fn put_head(out: &mut Vec<u8>, w: Word, p: &Param) -> Result<(), Memory>
-    ensures { OnOk result (out.new.items ≡ out.old.items ++ followed (terminal.word w ∷ (param_terminals (param_view p.now) ++ terminal.symbol symbol.DoubleColon ∷ []))) }
+    ensures { OnOk result (out.new.items ≡ out.old.items
+        ++ followed (terminal.word w
+            ∷ (param_terminals (param_view p.now) ++ terminal.symbol symbol.DoubleColon ∷ []))) }
 {
     put_word(out, w)?;
     put_param(out, p)?;
@@ -166,7 +173,8 @@ fn put_head(out: &mut Vec<u8>, w: Word, p: &Param) -> Result<(), Memory>
 #[cycle(put_exprs)]
 #[tactic(auto, using(crate::proofs::ExprViews::expr_views, crate::proofs::Appends::appends))]
 pub fn put_expr(out: &mut Vec<u8>, e: &ExprNode, place: Place) -> Result<(), Memory>
-    ensures { OnOk result (out.new.items ≡ out.old.items ++ followed (expr_terminals place (expr_view e.now))) }
+    ensures { OnOk result (out.new.items ≡ out.old.items
+        ++ followed (expr_terminals place (expr_view e.now))) }
 {
     if needs_parens(place, &e.what) {
         put_symbol(out, Symbol::OpenParen)?;
@@ -180,7 +188,8 @@ pub fn put_expr(out: &mut Vec<u8>, e: &ExprNode, place: Place) -> Result<(), Mem
 #[cycle(put_exprs)]
 #[tactic(auto, using(crate::proofs::ExprViews::expr_views, crate::proofs::Appends::appends))]
 fn put_form(out: &mut Vec<u8>, what: &ExprForm) -> Result<(), Memory>
-    ensures { OnOk result (out.new.items ≡ out.old.items ++ followed (form_terminals (expr_form_view what.now))) }
+    ensures { OnOk result (out.new.items ≡ out.old.items
+        ++ followed (form_terminals (expr_form_view what.now))) }
 {
     match what {
         ExprForm::Implies(a, b) => {
@@ -251,7 +260,8 @@ fn put_form(out: &mut Vec<u8>, what: &ExprForm) -> Result<(), Memory>
 
 #[cycle(put_exprs)]
 fn put_members(out: &mut Vec<u8>, es: &[ExprNode], m: Symbol, place: Place) -> Result<(), Memory>
-    ensures { OnOk result (out.new.items ≡ out.old.items ++ followed (separated m (exprs_terminals place (exprs_view es.now)))) }
+    ensures { OnOk result (out.new.items ≡ out.old.items
+        ++ followed (separated m (exprs_terminals place (exprs_view es.now)))) }
 {
     for (i, e) in es.iter().enumerate() {
         put_separator(out, m, i)?;
@@ -263,7 +273,8 @@ fn put_members(out: &mut Vec<u8>, es: &[ExprNode], m: Symbol, place: Place) -> R
 #[cycle(put_exprs)]
 #[tactic(auto, using(crate::proofs::ExprViews::expr_views, crate::proofs::Appends::appends))]
 fn put_arm(out: &mut Vec<u8>, a: &ExprArm) -> Result<(), Memory>
-    ensures { OnOk result (out.new.items ≡ out.old.items ++ followed (arm_terminals (expr_arm_view a.now))) }
+    ensures { OnOk result (out.new.items ≡ out.old.items
+        ++ followed (arm_terminals (expr_arm_view a.now))) }
 {
     put_pattern(out, &a.pattern)?;
     put_symbol(out, Symbol::Arrow)?;
@@ -272,7 +283,8 @@ fn put_arm(out: &mut Vec<u8>, a: &ExprArm) -> Result<(), Memory>
 
 #[cycle(put_exprs)]
 fn put_arms(out: &mut Vec<u8>, arms: &[ExprArm]) -> Result<(), Memory>
-    ensures { OnOk result (out.new.items ≡ out.old.items ++ followed (separated symbol.Comma (arms_terminals (expr_arms_view arms.now)))) }
+    ensures { OnOk result (out.new.items ≡ out.old.items
+        ++ followed (separated symbol.Comma (arms_terminals (expr_arms_view arms.now)))) }
 {
     for (i, a) in arms.iter().enumerate() {
         put_separator(out, Symbol::Comma, i)?;
@@ -284,7 +296,8 @@ fn put_arms(out: &mut Vec<u8>, arms: &[ExprArm]) -> Result<(), Memory>
 #[cycle(put_exprs)]
 #[tactic(auto, using(crate::proofs::ExprViews::expr_views, crate::proofs::Appends::appends))]
 pub fn put_access(out: &mut Vec<u8>, a: &AccessNode) -> Result<(), Memory>
-    ensures { OnOk result (out.new.items ≡ out.old.items ++ followed (access_terminals (access_view a.now))) }
+    ensures { OnOk result (out.new.items ≡ out.old.items
+        ++ followed (access_terminals (access_view a.now))) }
 {
     put_ident(out, &a.root)?;
     put_steps(out, a.steps.as_slice())?;
@@ -300,7 +313,8 @@ pub fn put_access(out: &mut Vec<u8>, a: &AccessNode) -> Result<(), Memory>
 
 #[cycle(put_exprs)]
 fn put_steps(out: &mut Vec<u8>, steps: &[AccessStep]) -> Result<(), Memory>
-    ensures { OnOk result (out.new.items ≡ out.old.items ++ followed (steps_terminals (steps_view steps.now))) }
+    ensures { OnOk result (out.new.items ≡ out.old.items
+        ++ followed (steps_terminals (steps_view steps.now))) }
 {
     for x in steps {
         put_step(out, x)?;
@@ -311,7 +325,8 @@ fn put_steps(out: &mut Vec<u8>, steps: &[AccessStep]) -> Result<(), Memory>
 #[cycle(put_exprs)]
 #[tactic(auto, using(crate::proofs::ExprViews::expr_views, crate::proofs::Appends::appends))]
 fn put_step(out: &mut Vec<u8>, x: &AccessStep) -> Result<(), Memory>
-    ensures { OnOk result (out.new.items ≡ out.old.items ++ followed (step_terminals (step_view x.now))) }
+    ensures { OnOk result (out.new.items ≡ out.old.items
+        ++ followed (step_terminals (step_view x.now))) }
 {
     match x {
         AccessStep::Dot(n) => {

@@ -133,7 +133,8 @@ pub fn put_separator(out: &mut Vec<u8>, m: Symbol, i: usize) -> Result<(), Memor
 }
 
 pub fn put_name(out: &mut Vec<u8>, bytes: &[u8]) -> Result<(), Memory>
-    ensures { OnOk result (out.new.items ≡ out.old.items ++ followed (terminal.name bytes.now ∷ [])) }
+    ensures { OnOk result (out.new.items ≡ out.old.items
+        ++ followed (terminal.name bytes.now ∷ [])) }
 {
     put(out, bytes)
 }
@@ -170,7 +171,8 @@ fn put_escaped(out: &mut Vec<u8>, meant: &[u8]) -> Result<(), Memory>
 }
 
 pub fn put_str(out: &mut Vec<u8>, meant: &[u8]) -> Result<(), Memory>
-    ensures { OnOk result (out.new.items ≡ out.old.items ++ followed (terminal.str meant.now ∷ [])) }
+    ensures { OnOk result (out.new.items ≡ out.old.items
+        ++ followed (terminal.str meant.now ∷ [])) }
 {
     out.extend_from_slice(b" \"")?;
     put_escaped(out, meant)?;
