@@ -1,10 +1,10 @@
 //! Expressions.
 
-ghost use Rattle.std.specs.Prelude.{◌≡◌, ◌∷◌, [], ◌++◌, map, OnOk};
+ghost use Rattle.std.specs.Prelude.{◌≡◌, ◌∷◌, [], ◌++◌, map, false, OnOk};
 ghost use Rattle.rp_grammar.specs.Terminals as terminal;
 ghost use Rattle.rp_grammar.specs.declared.terminal.Symbol.TheVariants as symbol;
 ghost use Rattle.rp_ast.specs.declared.printer.Place.TheVariants as place;
-ghost use Rattle.rp_ast.specs.Printed.{followed, separated, int_terminals, con_terminal, vars_terminals, pattern_terminals, param_terminals, compare_symbol, call_word, truth_word, name_terminal, is_composite as is_composite_form, is_negative as is_negative_form, needs_parens as needs_parens_at, expr_terminals, form_terminals, exprs_terminals, arm_terminals, arms_terminals, access_terminals, step_terminals, steps_terminals, args_terminals};
+ghost use Rattle.rp_ast.specs.Printed.{followed, separated, in_parens, int_terminals, con_terminal, vars_terminals, pattern_terminals, param_terminals, compare_symbol, call_word, truth_word, name_terminal, is_composite as is_composite_form, is_negative as is_negative_form, needs_parens as needs_parens_at, expr_terminals, form_terminals, exprs_terminals, arm_terminals, arms_terminals, access_terminals, step_terminals, steps_terminals, args_terminals};
 ghost use Rattle.rp_ast.specs.View.{ident_view, idents_view, pattern_view, param_view, expr_view, expr_form_view, exprs_view, expr_arm_view, expr_arms_view, access_view, step_view, steps_view, args_view};
 
 use super::Place;
@@ -158,18 +158,6 @@ pub fn put_pattern(out: &mut Vec<u8>, p: &PatternNode) -> Result<(), Memory>
     put_bindings(out, p.vars.as_slice())
 }
 
-/// A quantifier up to its body.
-#[tactic(auto, using(crate::proofs::Appends::appends))]
-fn put_head(out: &mut Vec<u8>, w: Word, p: &Param) -> Result<(), Memory>
-    ensures { OnOk result (out.new.items ≡ out.old.items
-        ++ followed (terminal.word w
-            ∷ (param_terminals (param_view p.now) ++ terminal.symbol symbol.DoubleColon ∷ []))) }
-{
-    put_word(out, w)?;
-    put_param(out, p)?;
-    put_symbol(out, Symbol::DoubleColon)
-}
-
 #[cycle(put_exprs)]
 #[tactic(auto, using(crate::proofs::ExprViews::expr_views, crate::proofs::Appends::appends))]
 pub fn put_expr(out: &mut Vec<u8>, e: &ExprNode, place: Place) -> Result<(), Memory>
@@ -203,14 +191,8 @@ fn put_form(out: &mut Vec<u8>, what: &ExprForm) -> Result<(), Memory>
             put_symbol(out, Symbol::Not)?;
             put_expr(out, e, Place::Operand)
         }
-        ExprForm::Forall(p, e) => {
-            put_head(out, Word::Forall, p)?;
-            put_expr(out, e, Place::Whole)
-        }
-        ExprForm::Exists(p, e) => {
-            put_head(out, Word::Exists, p)?;
-            put_expr(out, e, Place::Whole)
-        }
+        ExprForm::Forall(p, e) => put_quantified(out, Word::Forall, p, e),
+        ExprForm::Exists(p, e) => put_quantified(out, Word::Exists, p, e),
         ExprForm::Compare(op, a, b) => {
             put_expr(out, a, Place::Operand)?;
             put_symbol(out, compare_text(*op))?;
@@ -226,36 +208,80 @@ fn put_form(out: &mut Vec<u8>, what: &ExprForm) -> Result<(), Memory>
             put_symbol(out, Symbol::Minus)?;
             put_expr(out, b, Place::Operand)
         }
+        _ => put_primary(out, what),
+    }
+}
+
+/// A form with no operator, `!` or quantifier.
+#[cycle(put_exprs)]
+#[tactic(auto, using(crate::proofs::ExprViews::expr_views, crate::proofs::Appends::appends))]
+fn put_primary(out: &mut Vec<u8>, what: &ExprForm) -> Result<(), Memory>
+    requires { is_composite_form (expr_form_view what.now) ≡ false }
+    ensures { OnOk result (out.new.items ≡ out.old.items
+        ++ followed (form_terminals (expr_form_view what.now))) }
+{
+    match what {
         ExprForm::Int(n) => put_number(out, *n),
         ExprForm::Str(meant) => put_str(out, meant.as_slice()),
         ExprForm::Truth(true) => put_word(out, Word::True),
         ExprForm::Truth(false) => put_word(out, Word::False),
         ExprForm::NoneWord => put_word(out, Word::None),
-        ExprForm::SomeOf(e) => {
-            put_word(out, Word::Some)?;
-            put_symbol(out, Symbol::OpenParen)?;
-            put_expr(out, e, Place::Argument)?;
-            put_symbol(out, Symbol::CloseParen)
-        }
+        ExprForm::SomeOf(e) => put_on(out, Word::Some, e, Place::Argument),
         ExprForm::Unreturned => put_word(out, Word::Unreturned),
         ExprForm::Tx => put_word(out, Word::Tx),
         ExprForm::Call(w, es) => {
             put_word(out, call_text(*w))?;
-            put_symbol(out, Symbol::OpenParen)?;
-            put_members(out, es.as_slice(), Symbol::Comma, Place::Argument)?;
-            put_symbol(out, Symbol::CloseParen)
+            put_arguments(out, es.as_slice())
         }
         ExprForm::Match(e, arms) => {
-            put_word(out, Word::Match)?;
-            put_symbol(out, Symbol::OpenParen)?;
-            put_expr(out, e, Place::Whole)?;
-            put_symbol(out, Symbol::CloseParen)?;
+            put_on(out, Word::Match, e, Place::Whole)?;
             put_symbol(out, Symbol::OpenBrace)?;
             put_arms(out, arms.as_slice())?;
             put_symbol(out, Symbol::CloseBrace)
         }
         ExprForm::Access(a) => put_access(out, a),
+        _ => unreachable!(),
     }
+}
+
+/// A quantifier's word, its variable and its body.
+#[cycle(put_exprs)]
+#[tactic(auto, using(crate::proofs::Appends::appends))]
+fn put_quantified(out: &mut Vec<u8>, w: Word, p: &Param, e: &ExprNode) -> Result<(), Memory>
+    ensures { OnOk result (out.new.items ≡ out.old.items
+        ++ followed (terminal.word w ∷ (param_terminals (param_view p.now)
+            ++ terminal.symbol symbol.DoubleColon ∷ expr_terminals place.Whole (expr_view e.now)))) }
+{
+    put_word(out, w)?;
+    put_param(out, p)?;
+    put_symbol(out, Symbol::DoubleColon)?;
+    put_expr(out, e, Place::Whole)
+}
+
+/// A word, and the expression in parentheses behind it.
+#[cycle(put_exprs)]
+#[tactic(auto, using(crate::proofs::Appends::appends))]
+pub fn put_on(out: &mut Vec<u8>, w: Word, e: &ExprNode, place: Place) -> Result<(), Memory>
+    ensures { OnOk result (out.new.items ≡ out.old.items
+        ++ followed (terminal.word w ∷ in_parens (expr_terminals place (expr_view e.now)))) }
+{
+    put_word(out, w)?;
+    put_symbol(out, Symbol::OpenParen)?;
+    put_expr(out, e, place)?;
+    put_symbol(out, Symbol::CloseParen)
+}
+
+/// Arguments in parentheses, which are there even around none.
+#[cycle(put_exprs)]
+#[tactic(auto, using(crate::proofs::Appends::appends))]
+fn put_arguments(out: &mut Vec<u8>, es: &[ExprNode]) -> Result<(), Memory>
+    ensures { OnOk result (out.new.items ≡ out.old.items
+        ++ followed (in_parens
+            (separated symbol.Comma (exprs_terminals place.Argument (exprs_view es.now))))) }
+{
+    put_symbol(out, Symbol::OpenParen)?;
+    put_members(out, es, Symbol::Comma, Place::Argument)?;
+    put_symbol(out, Symbol::CloseParen)
 }
 
 #[cycle(put_exprs)]
@@ -303,11 +329,7 @@ pub fn put_access(out: &mut Vec<u8>, a: &AccessNode) -> Result<(), Memory>
     put_steps(out, a.steps.as_slice())?;
     match &a.args {
         None => Ok(()),
-        Some(es) => {
-            put_symbol(out, Symbol::OpenParen)?;
-            put_members(out, es.as_slice(), Symbol::Comma, Place::Argument)?;
-            put_symbol(out, Symbol::CloseParen)
-        }
+        Some(es) => put_arguments(out, es.as_slice()),
     }
 }
 

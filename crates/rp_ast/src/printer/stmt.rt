@@ -10,7 +10,7 @@ ghost use Rattle.rp_ast.specs.Printed.{followed, in_parens, expr_terminals, valu
 ghost use Rattle.rp_ast.specs.View.{optional, ident_view, type_view, expr_view, block_view, stmts_view, stmt_view, maybe_else_view, else_view, block_arm_view, block_arms_view};
 
 use super::Place;
-use super::expr::{put_access, put_expr, put_pattern};
+use super::expr::{put_access, put_expr, put_on, put_pattern};
 use super::token::{put_symbol, put_word};
 use super::ty::{put_ident, put_type};
 use crate::expr::ExprNode;
@@ -19,18 +19,6 @@ use crate::stmt::{Block, BlockArm, ElseNode, StmtForm, StmtNode};
 use crate::ty::TypeNode;
 use rp_grammar::{Symbol, Word};
 use rp_value::Memory;
-
-/// A word, and the expression in parentheses behind it.
-#[tactic(auto, using(crate::proofs::Appends::appends))]
-fn put_on(out: &mut Vec<u8>, w: Word, e: &ExprNode) -> Result<(), Memory>
-    ensures { OnOk result (out.new.items ≡ out.old.items
-        ++ followed (terminal.word w ∷ in_parens (expr_terminals place.Whole (expr_view e.now)))) }
-{
-    put_word(out, w)?;
-    put_symbol(out, Symbol::OpenParen)?;
-    put_expr(out, e, Place::Whole)?;
-    put_symbol(out, Symbol::CloseParen)
-}
 
 /// A variable's first value.
 #[tactic(auto, using(crate::proofs::Appends::appends))]
@@ -139,12 +127,12 @@ fn put_stmt(out: &mut Vec<u8>, s: &StmtNode) -> Result<(), Memory>
             put_symbol(out, Symbol::Semicolon)
         }
         StmtForm::If(e, b, otherwise) => {
-            put_on(out, Word::If, e)?;
+            put_on(out, Word::If, e, Place::Whole)?;
             put_block(out, b)?;
             put_maybe_else(out, otherwise)
         }
         StmtForm::Match(e, arms) => {
-            put_on(out, Word::Match, e)?;
+            put_on(out, Word::Match, e, Place::Whole)?;
             put_symbol(out, Symbol::OpenBrace)?;
             put_block_arms(out, arms.as_slice())?;
             put_symbol(out, Symbol::CloseBrace)
