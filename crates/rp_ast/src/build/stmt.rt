@@ -16,7 +16,7 @@ use std::alloc::Global;
 pub fn var(span: Span, name: Ident, ty: TypeNode, value: Option<ExprNode>) -> StmtNode
     ensures { stmt_view result
         ≡ StmtTree.node span (StmtShape.var (ident_view name) (type_view ty)
-            (optional expr_view value)) }
+        (optional expr_view value)) }
 {
     StmtNode {
         span,
@@ -56,7 +56,7 @@ pub fn access(span: Span, access: AccessNode) -> StmtNode
 pub fn if_(span: Span, condition: ExprNode, then: Block, otherwise: Option<ElseNode>) -> StmtNode
     ensures { stmt_view result
         ≡ StmtTree.node span (StmtShape.if_ (expr_view condition) (block_view then)
-            (maybe_else_view otherwise)) }
+        (maybe_else_view otherwise)) }
 {
     StmtNode {
         span,

@@ -30,7 +30,7 @@ fn put_of(out: &mut Vec<u8>, w: Word, t: &TypeNode) -> Result<(), Memory>
 fn put_map(out: &mut Vec<u8>, w: Word, key: &TypeNode) -> Result<(), Memory>
     ensures { OnOk result (out.new.items ≡ out.old.items
         ++ followed (terminal.word w ∷ terminal.symbol symbol.OpenBracket
-            ∷ (type_terminals (type_view key.now) ++ terminal.symbol symbol.Comma ∷ []))) }
+        ∷ (type_terminals (type_view key.now) ++ terminal.symbol symbol.Comma ∷ []))) }
 {
     put_word(out, w)?;
     put_symbol(out, Symbol::OpenBracket)?;

@@ -104,7 +104,7 @@ fn put_end(out: &mut Vec<u8>) -> Result<(), Memory>
 fn put_signature(out: &mut Vec<u8>, w: Word, name: &Ident, params: &[Param]) -> Result<(), Memory>
     ensures { OnOk result (out.new.items ≡ out.old.items
         ++ (spelling w ++ followed (name_terminal (ident_view name.now)
-            ∷ in_parens (params_terminals (params_view params.now))))) }
+        ∷ in_parens (params_terminals (params_view params.now))))) }
 {
     put_first(out, w)?;
     put_ident(out, name)?;
@@ -116,7 +116,7 @@ fn put_signature(out: &mut Vec<u8>, w: Word, name: &Ident, params: &[Param]) -> 
 fn put_query_type(out: &mut Vec<u8>, t: &TypeNode) -> Result<(), Memory>
     ensures { OnOk result (out.new.items ≡ out.old.items
         ++ followed (terminal.symbol symbol.Colon
-            ∷ (type_terminals (type_view t.now) ++ terminal.symbol symbol.Assign ∷ []))) }
+        ∷ (type_terminals (type_view t.now) ++ terminal.symbol symbol.Assign ∷ []))) }
 {
     put_symbol(out, Symbol::Colon)?;
     put_type(out, t)?;

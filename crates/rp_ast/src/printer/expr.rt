@@ -118,7 +118,7 @@ fn put_number(out: &mut Vec<u8>, n: i128) -> Result<(), Memory>
 fn put_vars(out: &mut Vec<u8>, vars: &[Ident]) -> Result<(), Memory>
     ensures { OnOk result (out.new.items ≡ out.old.items
         ++ followed (separated symbol.Comma
-            (map (λ n. name_terminal n ∷ []) (idents_view vars.now)))) }
+        (map (λ n. name_terminal n ∷ []) (idents_view vars.now)))) }
 {
     for (i, v) in vars.iter().enumerate() {
         put_separator(out, Symbol::Comma, i)?;
@@ -250,7 +250,7 @@ fn put_primary(out: &mut Vec<u8>, what: &ExprForm) -> Result<(), Memory>
 fn put_quantified(out: &mut Vec<u8>, w: Word, p: &Param, e: &ExprNode) -> Result<(), Memory>
     ensures { OnOk result (out.new.items ≡ out.old.items
         ++ followed (terminal.word w ∷ (param_terminals (param_view p.now)
-            ++ terminal.symbol symbol.DoubleColon ∷ expr_terminals place.Whole (expr_view e.now)))) }
+        ++ terminal.symbol symbol.DoubleColon ∷ expr_terminals place.Whole (expr_view e.now)))) }
 {
     put_word(out, w)?;
     put_param(out, p)?;
@@ -277,7 +277,7 @@ pub fn put_on(out: &mut Vec<u8>, w: Word, e: &ExprNode, place: Place) -> Result<
 fn put_arguments(out: &mut Vec<u8>, es: &[ExprNode]) -> Result<(), Memory>
     ensures { OnOk result (out.new.items ≡ out.old.items
         ++ followed (in_parens
-            (separated symbol.Comma (exprs_terminals place.Argument (exprs_view es.now))))) }
+        (separated symbol.Comma (exprs_terminals place.Argument (exprs_view es.now))))) }
 {
     put_symbol(out, Symbol::OpenParen)?;
     put_members(out, es, Symbol::Comma, Place::Argument)?;

@@ -56,7 +56,7 @@ fn put_var(
 ) -> Result<(), Memory>
     ensures { OnOk result (out.new.items ≡ out.old.items
         ++ followed (stmt_form_terminals (StmtShape.var
-            (ident_view n.now) (type_view t.now) (optional expr_view value.now)))) }
+        (ident_view n.now) (type_view t.now) (optional expr_view value.now)))) }
 {
     put_word(out, Word::Var)?;
     put_ident(out, n)?;
