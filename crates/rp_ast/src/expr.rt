@@ -65,7 +65,8 @@ pub enum AccessStep {
     Key(ExprNode),
 }
 
-/// A constructor, which may be one of the words `none`, `some`, `true` and `false`, and its variables.
+/// A constructor, which may be one of the words `none`, `some`, `true` and `false`,
+/// and its variables.
 #[derive(Debug, Drop)]
 pub struct PatternNode {
     pub con: Ident,

@@ -58,14 +58,16 @@ pub fn counter(span: Span) -> CrdtNode
 }
 
 pub fn map_uw(alloc: Global, span: Span, key: TypeNode, value: CrdtNode) -> Result<CrdtNode, Memory>
-    ensures { IfOk result (λ x. crdt_view x ≡ CrdtTree.node span (CrdtShape.map_uw (type_view key) (crdt_view value))) }
+    ensures { IfOk result (λ x. crdt_view x
+        ≡ CrdtTree.node span (CrdtShape.map_uw (type_view key) (crdt_view value))) }
 {
     let what = CrdtForm::MapUw(key, Boxed::new(alloc, value)?);
     Ok(CrdtNode { span, what })
 }
 
 pub fn map_dw(alloc: Global, span: Span, key: TypeNode, value: CrdtNode) -> Result<CrdtNode, Memory>
-    ensures { IfOk result (λ x. crdt_view x ≡ CrdtTree.node span (CrdtShape.map_dw (type_view key) (crdt_view value))) }
+    ensures { IfOk result (λ x. crdt_view x
+        ≡ CrdtTree.node span (CrdtShape.map_dw (type_view key) (crdt_view value))) }
 {
     let what = CrdtForm::MapDw(key, Boxed::new(alloc, value)?);
     Ok(CrdtNode { span, what })

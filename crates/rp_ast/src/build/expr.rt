@@ -19,7 +19,8 @@ pub fn implies(
     left: ExprNode,
     right: ExprNode,
 ) -> Result<ExprNode, Memory>
-    ensures { IfOk result (λ x. expr_view x ≡ ExprTree.node span (ExprShape.implies (expr_view left) (expr_view right))) }
+    ensures { IfOk result (λ x. expr_view x
+        ≡ ExprTree.node span (ExprShape.implies (expr_view left) (expr_view right))) }
 {
     let what = ExprForm::Implies(Boxed::new(alloc, left)?, Boxed::new(alloc, right)?);
     Ok(ExprNode { span, what })
@@ -44,7 +45,8 @@ pub fn and(span: Span, members: List<ExprNode>) -> ExprNode
 }
 
 pub fn not(alloc: Global, span: Span, operand: ExprNode) -> Result<ExprNode, Memory>
-    ensures { IfOk result (λ x. expr_view x ≡ ExprTree.node span (ExprShape.not (expr_view operand))) }
+    ensures { IfOk result (λ x. expr_view x
+        ≡ ExprTree.node span (ExprShape.not (expr_view operand))) }
 {
     let what = ExprForm::Not(Boxed::new(alloc, operand)?);
     Ok(ExprNode { span, what })
@@ -56,7 +58,8 @@ pub fn forall(
     variable: Param,
     body: ExprNode,
 ) -> Result<ExprNode, Memory>
-    ensures { IfOk result (λ x. expr_view x ≡ ExprTree.node span (ExprShape.forall (param_view variable) (expr_view body))) }
+    ensures { IfOk result (λ x. expr_view x
+        ≡ ExprTree.node span (ExprShape.forall (param_view variable) (expr_view body))) }
 {
     let what = ExprForm::Forall(variable, Boxed::new(alloc, body)?);
     Ok(ExprNode { span, what })
@@ -68,7 +71,8 @@ pub fn exists(
     variable: Param,
     body: ExprNode,
 ) -> Result<ExprNode, Memory>
-    ensures { IfOk result (λ x. expr_view x ≡ ExprTree.node span (ExprShape.exists (param_view variable) (expr_view body))) }
+    ensures { IfOk result (λ x. expr_view x
+        ≡ ExprTree.node span (ExprShape.exists (param_view variable) (expr_view body))) }
 {
     let what = ExprForm::Exists(variable, Boxed::new(alloc, body)?);
     Ok(ExprNode { span, what })
@@ -81,21 +85,24 @@ pub fn compare(
     left: ExprNode,
     right: ExprNode,
 ) -> Result<ExprNode, Memory>
-    ensures { IfOk result (λ x. expr_view x ≡ ExprTree.node span (ExprShape.compare op (expr_view left) (expr_view right))) }
+    ensures { IfOk result (λ x. expr_view x
+        ≡ ExprTree.node span (ExprShape.compare op (expr_view left) (expr_view right))) }
 {
     let what = ExprForm::Compare(op, Boxed::new(alloc, left)?, Boxed::new(alloc, right)?);
     Ok(ExprNode { span, what })
 }
 
 pub fn plus(alloc: Global, span: Span, left: ExprNode, right: ExprNode) -> Result<ExprNode, Memory>
-    ensures { IfOk result (λ x. expr_view x ≡ ExprTree.node span (ExprShape.plus (expr_view left) (expr_view right))) }
+    ensures { IfOk result (λ x. expr_view x
+        ≡ ExprTree.node span (ExprShape.plus (expr_view left) (expr_view right))) }
 {
     let what = ExprForm::Plus(Boxed::new(alloc, left)?, Boxed::new(alloc, right)?);
     Ok(ExprNode { span, what })
 }
 
 pub fn minus(alloc: Global, span: Span, left: ExprNode, right: ExprNode) -> Result<ExprNode, Memory>
-    ensures { IfOk result (λ x. expr_view x ≡ ExprTree.node span (ExprShape.minus (expr_view left) (expr_view right))) }
+    ensures { IfOk result (λ x. expr_view x
+        ≡ ExprTree.node span (ExprShape.minus (expr_view left) (expr_view right))) }
 {
     let what = ExprForm::Minus(Boxed::new(alloc, left)?, Boxed::new(alloc, right)?);
     Ok(ExprNode { span, what })
@@ -138,7 +145,8 @@ pub fn none_word(span: Span) -> ExprNode
 }
 
 pub fn some_of(alloc: Global, span: Span, value: ExprNode) -> Result<ExprNode, Memory>
-    ensures { IfOk result (λ x. expr_view x ≡ ExprTree.node span (ExprShape.some_of (expr_view value))) }
+    ensures { IfOk result (λ x. expr_view x
+        ≡ ExprTree.node span (ExprShape.some_of (expr_view value))) }
 {
     let what = ExprForm::SomeOf(Boxed::new(alloc, value)?);
     Ok(ExprNode { span, what })
@@ -177,7 +185,8 @@ pub fn match_(
     value: ExprNode,
     arms: List<ExprArm>,
 ) -> Result<ExprNode, Memory>
-    ensures { IfOk result (λ x. expr_view x ≡ ExprTree.node span (ExprShape.match (expr_view value) (expr_arms_view arms))) }
+    ensures { IfOk result (λ x. expr_view x
+        ≡ ExprTree.node span (ExprShape.match (expr_view value) (expr_arms_view arms))) }
 {
     let what = ExprForm::Match(Boxed::new(alloc, value)?, arms);
     Ok(ExprNode { span, what })
@@ -199,7 +208,8 @@ pub fn arm(pattern: PatternNode, body: ExprNode) -> ExprArm
 }
 
 pub fn path(root: Ident, steps: List<AccessStep>, args: Option<List<ExprNode>>) -> AccessNode
-    ensures { access_view result ≡ AccessTree.path (ident_view root) (steps_view steps) (args_view args) }
+    ensures { access_view result
+        ≡ AccessTree.path (ident_view root) (steps_view steps) (args_view args) }
 {
     AccessNode { root, steps, args }
 }

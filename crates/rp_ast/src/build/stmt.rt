@@ -14,7 +14,9 @@ use rp_value::{Boxed, List, Memory};
 use std::alloc::Global;
 
 pub fn var(span: Span, name: Ident, ty: TypeNode, value: Option<ExprNode>) -> StmtNode
-    ensures { stmt_view result ≡ StmtTree.node span (StmtShape.var (ident_view name) (type_view ty) (optional expr_view value)) }
+    ensures { stmt_view result
+        ≡ StmtTree.node span (StmtShape.var (ident_view name) (type_view ty)
+        (optional expr_view value)) }
 {
     StmtNode {
         span,
@@ -23,7 +25,8 @@ pub fn var(span: Span, name: Ident, ty: TypeNode, value: Option<ExprNode>) -> St
 }
 
 pub fn new(span: Span, name: Ident, ty: Ident) -> StmtNode
-    ensures { stmt_view result ≡ StmtTree.node span (StmtShape.new (ident_view name) (ident_view ty)) }
+    ensures { stmt_view result
+        ≡ StmtTree.node span (StmtShape.new (ident_view name) (ident_view ty)) }
 {
     StmtNode {
         span,
@@ -32,7 +35,8 @@ pub fn new(span: Span, name: Ident, ty: Ident) -> StmtNode
 }
 
 pub fn assign(span: Span, name: Ident, value: ExprNode) -> StmtNode
-    ensures { stmt_view result ≡ StmtTree.node span (StmtShape.assign (ident_view name) (expr_view value)) }
+    ensures { stmt_view result
+        ≡ StmtTree.node span (StmtShape.assign (ident_view name) (expr_view value)) }
 {
     StmtNode {
         span,
@@ -50,7 +54,9 @@ pub fn access(span: Span, access: AccessNode) -> StmtNode
 }
 
 pub fn if_(span: Span, condition: ExprNode, then: Block, otherwise: Option<ElseNode>) -> StmtNode
-    ensures { stmt_view result ≡ StmtTree.node span (StmtShape.if_ (expr_view condition) (block_view then) (maybe_else_view otherwise)) }
+    ensures { stmt_view result
+        ≡ StmtTree.node span (StmtShape.if_ (expr_view condition) (block_view then)
+        (maybe_else_view otherwise)) }
 {
     StmtNode {
         span,
@@ -59,7 +65,8 @@ pub fn if_(span: Span, condition: ExprNode, then: Block, otherwise: Option<ElseN
 }
 
 pub fn match_(span: Span, value: ExprNode, arms: List<BlockArm>) -> StmtNode
-    ensures { stmt_view result ≡ StmtTree.node span (StmtShape.match (expr_view value) (block_arms_view arms)) }
+    ensures { stmt_view result
+        ≡ StmtTree.node span (StmtShape.match (expr_view value) (block_arms_view arms)) }
 {
     StmtNode {
         span,

@@ -65,7 +65,8 @@ pub fn invocation(span: Span) -> TypeNode
 }
 
 pub fn maybe(alloc: Global, span: Span, inner: TypeNode) -> Result<TypeNode, Memory>
-    ensures { IfOk result (λ x. type_view x ≡ TypeTree.node span (TypeShape.maybe (type_view inner))) }
+    ensures { IfOk result (λ x. type_view x
+        ≡ TypeTree.node span (TypeShape.maybe (type_view inner))) }
 {
     let what = TypeForm::Maybe(Boxed::new(alloc, inner)?);
     Ok(TypeNode { span, what })

@@ -16,7 +16,8 @@ use rp_value::Memory;
 /// A word, and an element's type in brackets.
 #[tactic(auto, using(crate::proofs::Appends::appends))]
 fn put_of(out: &mut Vec<u8>, w: Word, t: &TypeNode) -> Result<(), Memory>
-    ensures { OnOk result (out.new.items ≡ out.old.items ++ followed (terminal.word w ∷ in_brackets (type_terminals (type_view t.now)))) }
+    ensures { OnOk result (out.new.items ≡ out.old.items
+        ++ followed (terminal.word w ∷ in_brackets (type_terminals (type_view t.now)))) }
 {
     put_word(out, w)?;
     put_symbol(out, Symbol::OpenBracket)?;
@@ -27,7 +28,9 @@ fn put_of(out: &mut Vec<u8>, w: Word, t: &TypeNode) -> Result<(), Memory>
 /// A map's word, and its keys' type up to the comma.
 #[tactic(auto, using(crate::proofs::Appends::appends))]
 fn put_map(out: &mut Vec<u8>, w: Word, key: &TypeNode) -> Result<(), Memory>
-    ensures { OnOk result (out.new.items ≡ out.old.items ++ followed (terminal.word w ∷ terminal.symbol symbol.OpenBracket ∷ (type_terminals (type_view key.now) ++ terminal.symbol symbol.Comma ∷ []))) }
+    ensures { OnOk result (out.new.items ≡ out.old.items
+        ++ followed (terminal.word w ∷ terminal.symbol symbol.OpenBracket
+        ∷ (type_terminals (type_view key.now) ++ terminal.symbol symbol.Comma ∷ []))) }
 {
     put_word(out, w)?;
     put_symbol(out, Symbol::OpenBracket)?;
@@ -38,7 +41,8 @@ fn put_map(out: &mut Vec<u8>, w: Word, key: &TypeNode) -> Result<(), Memory>
 #[cycle(put_crdts)]
 #[tactic(auto, using(crate::proofs::TypeViews::crdt_views, crate::proofs::Appends::appends))]
 pub fn put_crdt(out: &mut Vec<u8>, c: &CrdtNode) -> Result<(), Memory>
-    ensures { OnOk result (out.new.items ≡ out.old.items ++ followed (crdt_terminals (crdt_view c.now))) }
+    ensures { OnOk result (out.new.items ≡ out.old.items
+        ++ followed (crdt_terminals (crdt_view c.now))) }
 {
     match &c.what {
         CrdtForm::SetAw(t) => put_of(out, Word::SetAw, t),
@@ -67,7 +71,8 @@ pub fn put_crdt(out: &mut Vec<u8>, c: &CrdtNode) -> Result<(), Memory>
 #[cycle(put_crdts)]
 #[tactic(auto, using(crate::proofs::TypeViews::crdt_views, crate::proofs::Appends::appends))]
 fn put_field(out: &mut Vec<u8>, f: &FieldNode) -> Result<(), Memory>
-    ensures { OnOk result (out.new.items ≡ out.old.items ++ followed (field_terminals (field_view f.now))) }
+    ensures { OnOk result (out.new.items ≡ out.old.items
+        ++ followed (field_terminals (field_view f.now))) }
 {
     put_ident(out, &f.name)?;
     put_symbol(out, Symbol::Colon)?;
@@ -76,7 +81,8 @@ fn put_field(out: &mut Vec<u8>, f: &FieldNode) -> Result<(), Memory>
 
 #[cycle(put_crdts)]
 fn put_fields(out: &mut Vec<u8>, fields: &[FieldNode]) -> Result<(), Memory>
-    ensures { OnOk result (out.new.items ≡ out.old.items ++ followed (separated symbol.Comma (fields_terminals (fields_view fields.now)))) }
+    ensures { OnOk result (out.new.items ≡ out.old.items
+        ++ followed (separated symbol.Comma (fields_terminals (fields_view fields.now)))) }
 {
     for (i, f) in fields.iter().enumerate() {
         put_separator(out, Symbol::Comma, i)?;

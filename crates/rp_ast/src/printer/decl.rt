@@ -23,7 +23,8 @@ use std::alloc::Global;
 /// The fields of a constructor, in parentheses where there are any.
 #[tactic(auto, using(crate::proofs::Appends::appends))]
 fn put_fields(out: &mut Vec<u8>, fields: &[Param]) -> Result<(), Memory>
-    ensures { OnOk result (out.new.items ≡ out.old.items ++ followed (con_fields_terminals (params_view fields.now))) }
+    ensures { OnOk result (out.new.items ≡ out.old.items
+        ++ followed (con_fields_terminals (params_view fields.now))) }
 {
     if fields.is_empty() {
         return Ok(());
@@ -35,14 +36,16 @@ fn put_fields(out: &mut Vec<u8>, fields: &[Param]) -> Result<(), Memory>
 
 #[tactic(auto, using(crate::proofs::Appends::appends))]
 fn put_con(out: &mut Vec<u8>, c: &ConNode) -> Result<(), Memory>
-    ensures { OnOk result (out.new.items ≡ out.old.items ++ followed (con_terminals (con_view c.now))) }
+    ensures { OnOk result (out.new.items ≡ out.old.items
+        ++ followed (con_terminals (con_view c.now))) }
 {
     put_ident(out, &c.name)?;
     put_fields(out, c.fields.as_slice())
 }
 
 fn put_cons(out: &mut Vec<u8>, cons: &[ConNode]) -> Result<(), Memory>
-    ensures { OnOk result (out.new.items ≡ out.old.items ++ followed (separated symbol.Bar (map con_terminals (map con_view cons.now)))) }
+    ensures { OnOk result (out.new.items ≡ out.old.items
+        ++ followed (separated symbol.Bar (map con_terminals (map con_view cons.now)))) }
 {
     for (i, c) in cons.iter().enumerate() {
         put_separator(out, Symbol::Bar, i)?;
@@ -54,7 +57,8 @@ fn put_cons(out: &mut Vec<u8>, cons: &[ConNode]) -> Result<(), Memory>
 /// An invariant's name, where it has one.
 #[tactic(auto, using(crate::proofs::Appends::appends))]
 fn put_label(out: &mut Vec<u8>, name: &Option<Ident>) -> Result<(), Memory>
-    ensures { OnOk result (out.new.items ≡ out.old.items ++ followed (label_terminals (optional ident_view name.now))) }
+    ensures { OnOk result (out.new.items ≡ out.old.items
+        ++ followed (label_terminals (optional ident_view name.now))) }
 {
     match name {
         None => Ok(()),
@@ -67,7 +71,8 @@ fn put_label(out: &mut Vec<u8>, name: &Option<Ident>) -> Result<(), Memory>
 
 #[tactic(auto, using(crate::proofs::Appends::appends))]
 fn put_result_type(out: &mut Vec<u8>, ty: &Option<TypeNode>) -> Result<(), Memory>
-    ensures { OnOk result (out.new.items ≡ out.old.items ++ followed (result_type_terminals (optional type_view ty.now))) }
+    ensures { OnOk result (out.new.items ≡ out.old.items
+        ++ followed (result_type_terminals (optional type_view ty.now))) }
 {
     match ty {
         None => Ok(()),
@@ -97,7 +102,9 @@ fn put_end(out: &mut Vec<u8>) -> Result<(), Memory>
 /// A query or a procedure up to its parameters, which begins a line.
 #[tactic(auto, using(crate::proofs::Appends::appends))]
 fn put_signature(out: &mut Vec<u8>, w: Word, name: &Ident, params: &[Param]) -> Result<(), Memory>
-    ensures { OnOk result (out.new.items ≡ out.old.items ++ (spelling w ++ followed (name_terminal (ident_view name.now) ∷ in_parens (params_terminals (params_view params.now))))) }
+    ensures { OnOk result (out.new.items ≡ out.old.items
+        ++ (spelling w ++ followed (name_terminal (ident_view name.now)
+        ∷ in_parens (params_terminals (params_view params.now))))) }
 {
     put_first(out, w)?;
     put_ident(out, name)?;
@@ -107,7 +114,9 @@ fn put_signature(out: &mut Vec<u8>, w: Word, name: &Ident, params: &[Param]) -> 
 /// The type of a query's result, and what stands around it.
 #[tactic(auto, using(crate::proofs::Appends::appends))]
 fn put_query_type(out: &mut Vec<u8>, t: &TypeNode) -> Result<(), Memory>
-    ensures { OnOk result (out.new.items ≡ out.old.items ++ followed (terminal.symbol symbol.Colon ∷ (type_terminals (type_view t.now) ++ terminal.symbol symbol.Assign ∷ []))) }
+    ensures { OnOk result (out.new.items ≡ out.old.items
+        ++ followed (terminal.symbol symbol.Colon
+        ∷ (type_terminals (type_view t.now) ++ terminal.symbol symbol.Assign ∷ []))) }
 {
     put_symbol(out, Symbol::Colon)?;
     put_type(out, t)?;
@@ -116,7 +125,8 @@ fn put_query_type(out: &mut Vec<u8>, t: &TypeNode) -> Result<(), Memory>
 
 #[tactic(auto, using(crate::proofs::Appends::appends))]
 fn put_query(out: &mut Vec<u8>, q: &QueryNode) -> Result<(), Memory>
-    ensures { OnOk result (out.new.items ≡ out.old.items ++ line (query_terminals (query_view q.now))) }
+    ensures { OnOk result (out.new.items ≡ out.old.items
+        ++ line (query_terminals (query_view q.now))) }
 {
     put_signature(out, Word::Query, &q.name, q.params.as_slice())?;
     put_query_type(out, &q.result)?;
@@ -126,7 +136,8 @@ fn put_query(out: &mut Vec<u8>, q: &QueryNode) -> Result<(), Memory>
 
 #[tactic(auto, using(crate::proofs::Appends::appends))]
 fn put_proc(out: &mut Vec<u8>, p: &ProcNode) -> Result<(), Memory>
-    ensures { OnOk result (out.new.items ≡ out.old.items ++ line (proc_terminals (proc_view p.now))) }
+    ensures { OnOk result (out.new.items ≡ out.old.items
+        ++ line (proc_terminals (proc_view p.now))) }
 {
     put_signature(out, Word::Proc, &p.name, p.params.as_slice())?;
     put_result_type(out, &p.result)?;
@@ -136,7 +147,8 @@ fn put_proc(out: &mut Vec<u8>, p: &ProcNode) -> Result<(), Memory>
 
 #[tactic(auto, using(crate::proofs::Appends::appends))]
 fn put_decl(out: &mut Vec<u8>, d: &Decl) -> Result<(), Memory>
-    ensures { OnOk result (out.new.items ≡ out.old.items ++ line (decl_terminals (decl_view d.now))) }
+    ensures { OnOk result (out.new.items ≡ out.old.items
+        ++ line (decl_terminals (decl_view d.now))) }
 {
     match &d.what {
         DeclForm::IdType(n) => {

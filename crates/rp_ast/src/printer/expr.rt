@@ -1,10 +1,10 @@
 //! Expressions.
 
-ghost use Rattle.std.specs.Prelude.{◌≡◌, ◌∷◌, [], ◌++◌, map, OnOk};
+ghost use Rattle.std.specs.Prelude.{◌≡◌, ◌∷◌, [], ◌++◌, map, false, OnOk};
 ghost use Rattle.rp_grammar.specs.Terminals as terminal;
 ghost use Rattle.rp_grammar.specs.declared.terminal.Symbol.TheVariants as symbol;
 ghost use Rattle.rp_ast.specs.declared.printer.Place.TheVariants as place;
-ghost use Rattle.rp_ast.specs.Printed.{followed, separated, int_terminals, con_terminal, vars_terminals, pattern_terminals, param_terminals, compare_symbol, call_word, truth_word, name_terminal, is_composite as is_composite_form, is_negative as is_negative_form, needs_parens as needs_parens_at, expr_terminals, form_terminals, exprs_terminals, arm_terminals, arms_terminals, access_terminals, step_terminals, steps_terminals, args_terminals};
+ghost use Rattle.rp_ast.specs.Printed.{followed, separated, in_parens, int_terminals, con_terminal, vars_terminals, pattern_terminals, param_terminals, compare_symbol, call_word, truth_word, name_terminal, is_composite as is_composite_form, is_negative as is_negative_form, needs_parens as needs_parens_at, expr_terminals, form_terminals, exprs_terminals, arm_terminals, arms_terminals, access_terminals, step_terminals, steps_terminals, args_terminals};
 ghost use Rattle.rp_ast.specs.View.{ident_view, idents_view, pattern_view, param_view, expr_view, expr_form_view, exprs_view, expr_arm_view, expr_arms_view, access_view, step_view, steps_view, args_view};
 
 use super::Place;
@@ -116,7 +116,9 @@ fn put_number(out: &mut Vec<u8>, n: i128) -> Result<(), Memory>
 }
 
 fn put_vars(out: &mut Vec<u8>, vars: &[Ident]) -> Result<(), Memory>
-    ensures { OnOk result (out.new.items ≡ out.old.items ++ followed (separated symbol.Comma (map (λ n. name_terminal n ∷ []) (idents_view vars.now)))) }
+    ensures { OnOk result (out.new.items ≡ out.old.items
+        ++ followed (separated symbol.Comma
+        (map (λ n. name_terminal n ∷ []) (idents_view vars.now)))) }
 {
     for (i, v) in vars.iter().enumerate() {
         put_separator(out, Symbol::Comma, i)?;
@@ -127,7 +129,8 @@ fn put_vars(out: &mut Vec<u8>, vars: &[Ident]) -> Result<(), Memory>
 
 /// The constructor of a pattern.
 fn put_con(out: &mut Vec<u8>, n: &Ident) -> Result<(), Memory>
-    ensures { OnOk result (out.new.items ≡ out.old.items ++ followed (con_terminal (ident_view n.now) ∷ [])) }
+    ensures { OnOk result (out.new.items ≡ out.old.items
+        ++ followed (con_terminal (ident_view n.now) ∷ [])) }
 {
     put_name(out, n.text.as_slice())
 }
@@ -135,7 +138,8 @@ fn put_con(out: &mut Vec<u8>, n: &Ident) -> Result<(), Memory>
 /// The variables of a pattern, in parentheses where there are any.
 #[tactic(auto, using(crate::proofs::Appends::appends))]
 fn put_bindings(out: &mut Vec<u8>, vars: &[Ident]) -> Result<(), Memory>
-    ensures { OnOk result (out.new.items ≡ out.old.items ++ followed (vars_terminals (idents_view vars.now))) }
+    ensures { OnOk result (out.new.items ≡ out.old.items
+        ++ followed (vars_terminals (idents_view vars.now))) }
 {
     if vars.is_empty() {
         return Ok(());
@@ -147,26 +151,18 @@ fn put_bindings(out: &mut Vec<u8>, vars: &[Ident]) -> Result<(), Memory>
 
 #[tactic(auto, using(crate::proofs::Appends::appends))]
 pub fn put_pattern(out: &mut Vec<u8>, p: &PatternNode) -> Result<(), Memory>
-    ensures { OnOk result (out.new.items ≡ out.old.items ++ followed (pattern_terminals (pattern_view p.now))) }
+    ensures { OnOk result (out.new.items ≡ out.old.items
+        ++ followed (pattern_terminals (pattern_view p.now))) }
 {
     put_con(out, &p.con)?;
     put_bindings(out, p.vars.as_slice())
 }
 
-/// A quantifier up to its body.
-#[tactic(auto, using(crate::proofs::Appends::appends))]
-fn put_head(out: &mut Vec<u8>, w: Word, p: &Param) -> Result<(), Memory>
-    ensures { OnOk result (out.new.items ≡ out.old.items ++ followed (terminal.word w ∷ (param_terminals (param_view p.now) ++ terminal.symbol symbol.DoubleColon ∷ []))) }
-{
-    put_word(out, w)?;
-    put_param(out, p)?;
-    put_symbol(out, Symbol::DoubleColon)
-}
-
 #[cycle(put_exprs)]
 #[tactic(auto, using(crate::proofs::ExprViews::expr_views, crate::proofs::Appends::appends))]
 pub fn put_expr(out: &mut Vec<u8>, e: &ExprNode, place: Place) -> Result<(), Memory>
-    ensures { OnOk result (out.new.items ≡ out.old.items ++ followed (expr_terminals place (expr_view e.now))) }
+    ensures { OnOk result (out.new.items ≡ out.old.items
+        ++ followed (expr_terminals place (expr_view e.now))) }
 {
     if needs_parens(place, &e.what) {
         put_symbol(out, Symbol::OpenParen)?;
@@ -180,7 +176,8 @@ pub fn put_expr(out: &mut Vec<u8>, e: &ExprNode, place: Place) -> Result<(), Mem
 #[cycle(put_exprs)]
 #[tactic(auto, using(crate::proofs::ExprViews::expr_views, crate::proofs::Appends::appends))]
 fn put_form(out: &mut Vec<u8>, what: &ExprForm) -> Result<(), Memory>
-    ensures { OnOk result (out.new.items ≡ out.old.items ++ followed (form_terminals (expr_form_view what.now))) }
+    ensures { OnOk result (out.new.items ≡ out.old.items
+        ++ followed (form_terminals (expr_form_view what.now))) }
 {
     match what {
         ExprForm::Implies(a, b) => {
@@ -194,14 +191,8 @@ fn put_form(out: &mut Vec<u8>, what: &ExprForm) -> Result<(), Memory>
             put_symbol(out, Symbol::Not)?;
             put_expr(out, e, Place::Operand)
         }
-        ExprForm::Forall(p, e) => {
-            put_head(out, Word::Forall, p)?;
-            put_expr(out, e, Place::Whole)
-        }
-        ExprForm::Exists(p, e) => {
-            put_head(out, Word::Exists, p)?;
-            put_expr(out, e, Place::Whole)
-        }
+        ExprForm::Forall(p, e) => put_quantified(out, Word::Forall, p, e),
+        ExprForm::Exists(p, e) => put_quantified(out, Word::Exists, p, e),
         ExprForm::Compare(op, a, b) => {
             put_expr(out, a, Place::Operand)?;
             put_symbol(out, compare_text(*op))?;
@@ -217,41 +208,86 @@ fn put_form(out: &mut Vec<u8>, what: &ExprForm) -> Result<(), Memory>
             put_symbol(out, Symbol::Minus)?;
             put_expr(out, b, Place::Operand)
         }
+        _ => put_primary(out, what),
+    }
+}
+
+/// A form with no operator, `!` or quantifier.
+#[cycle(put_exprs)]
+#[tactic(auto, using(crate::proofs::ExprViews::expr_views, crate::proofs::Appends::appends))]
+fn put_primary(out: &mut Vec<u8>, what: &ExprForm) -> Result<(), Memory>
+    requires { is_composite_form (expr_form_view what.now) ≡ false }
+    ensures { OnOk result (out.new.items ≡ out.old.items
+        ++ followed (form_terminals (expr_form_view what.now))) }
+{
+    match what {
         ExprForm::Int(n) => put_number(out, *n),
         ExprForm::Str(meant) => put_str(out, meant.as_slice()),
         ExprForm::Truth(true) => put_word(out, Word::True),
         ExprForm::Truth(false) => put_word(out, Word::False),
         ExprForm::NoneWord => put_word(out, Word::None),
-        ExprForm::SomeOf(e) => {
-            put_word(out, Word::Some)?;
-            put_symbol(out, Symbol::OpenParen)?;
-            put_expr(out, e, Place::Argument)?;
-            put_symbol(out, Symbol::CloseParen)
-        }
+        ExprForm::SomeOf(e) => put_on(out, Word::Some, e, Place::Argument),
         ExprForm::Unreturned => put_word(out, Word::Unreturned),
         ExprForm::Tx => put_word(out, Word::Tx),
         ExprForm::Call(w, es) => {
             put_word(out, call_text(*w))?;
-            put_symbol(out, Symbol::OpenParen)?;
-            put_members(out, es.as_slice(), Symbol::Comma, Place::Argument)?;
-            put_symbol(out, Symbol::CloseParen)
+            put_arguments(out, es.as_slice())
         }
         ExprForm::Match(e, arms) => {
-            put_word(out, Word::Match)?;
-            put_symbol(out, Symbol::OpenParen)?;
-            put_expr(out, e, Place::Whole)?;
-            put_symbol(out, Symbol::CloseParen)?;
+            put_on(out, Word::Match, e, Place::Whole)?;
             put_symbol(out, Symbol::OpenBrace)?;
             put_arms(out, arms.as_slice())?;
             put_symbol(out, Symbol::CloseBrace)
         }
         ExprForm::Access(a) => put_access(out, a),
+        _ => unreachable!(),
     }
+}
+
+/// A quantifier's word, its variable and its body.
+#[cycle(put_exprs)]
+#[tactic(auto, using(crate::proofs::Appends::appends))]
+fn put_quantified(out: &mut Vec<u8>, w: Word, p: &Param, e: &ExprNode) -> Result<(), Memory>
+    ensures { OnOk result (out.new.items ≡ out.old.items
+        ++ followed (terminal.word w ∷ (param_terminals (param_view p.now)
+        ++ terminal.symbol symbol.DoubleColon ∷ expr_terminals place.Whole (expr_view e.now)))) }
+{
+    put_word(out, w)?;
+    put_param(out, p)?;
+    put_symbol(out, Symbol::DoubleColon)?;
+    put_expr(out, e, Place::Whole)
+}
+
+/// A word, and the expression in parentheses behind it.
+#[cycle(put_exprs)]
+#[tactic(auto, using(crate::proofs::Appends::appends))]
+pub fn put_on(out: &mut Vec<u8>, w: Word, e: &ExprNode, place: Place) -> Result<(), Memory>
+    ensures { OnOk result (out.new.items ≡ out.old.items
+        ++ followed (terminal.word w ∷ in_parens (expr_terminals place (expr_view e.now)))) }
+{
+    put_word(out, w)?;
+    put_symbol(out, Symbol::OpenParen)?;
+    put_expr(out, e, place)?;
+    put_symbol(out, Symbol::CloseParen)
+}
+
+/// Arguments in parentheses, which are there even around none.
+#[cycle(put_exprs)]
+#[tactic(auto, using(crate::proofs::Appends::appends))]
+fn put_arguments(out: &mut Vec<u8>, es: &[ExprNode]) -> Result<(), Memory>
+    ensures { OnOk result (out.new.items ≡ out.old.items
+        ++ followed (in_parens
+        (separated symbol.Comma (exprs_terminals place.Argument (exprs_view es.now))))) }
+{
+    put_symbol(out, Symbol::OpenParen)?;
+    put_members(out, es, Symbol::Comma, Place::Argument)?;
+    put_symbol(out, Symbol::CloseParen)
 }
 
 #[cycle(put_exprs)]
 fn put_members(out: &mut Vec<u8>, es: &[ExprNode], m: Symbol, place: Place) -> Result<(), Memory>
-    ensures { OnOk result (out.new.items ≡ out.old.items ++ followed (separated m (exprs_terminals place (exprs_view es.now)))) }
+    ensures { OnOk result (out.new.items ≡ out.old.items
+        ++ followed (separated m (exprs_terminals place (exprs_view es.now)))) }
 {
     for (i, e) in es.iter().enumerate() {
         put_separator(out, m, i)?;
@@ -263,7 +299,8 @@ fn put_members(out: &mut Vec<u8>, es: &[ExprNode], m: Symbol, place: Place) -> R
 #[cycle(put_exprs)]
 #[tactic(auto, using(crate::proofs::ExprViews::expr_views, crate::proofs::Appends::appends))]
 fn put_arm(out: &mut Vec<u8>, a: &ExprArm) -> Result<(), Memory>
-    ensures { OnOk result (out.new.items ≡ out.old.items ++ followed (arm_terminals (expr_arm_view a.now))) }
+    ensures { OnOk result (out.new.items ≡ out.old.items
+        ++ followed (arm_terminals (expr_arm_view a.now))) }
 {
     put_pattern(out, &a.pattern)?;
     put_symbol(out, Symbol::Arrow)?;
@@ -272,7 +309,8 @@ fn put_arm(out: &mut Vec<u8>, a: &ExprArm) -> Result<(), Memory>
 
 #[cycle(put_exprs)]
 fn put_arms(out: &mut Vec<u8>, arms: &[ExprArm]) -> Result<(), Memory>
-    ensures { OnOk result (out.new.items ≡ out.old.items ++ followed (separated symbol.Comma (arms_terminals (expr_arms_view arms.now)))) }
+    ensures { OnOk result (out.new.items ≡ out.old.items
+        ++ followed (separated symbol.Comma (arms_terminals (expr_arms_view arms.now)))) }
 {
     for (i, a) in arms.iter().enumerate() {
         put_separator(out, Symbol::Comma, i)?;
@@ -284,23 +322,21 @@ fn put_arms(out: &mut Vec<u8>, arms: &[ExprArm]) -> Result<(), Memory>
 #[cycle(put_exprs)]
 #[tactic(auto, using(crate::proofs::ExprViews::expr_views, crate::proofs::Appends::appends))]
 pub fn put_access(out: &mut Vec<u8>, a: &AccessNode) -> Result<(), Memory>
-    ensures { OnOk result (out.new.items ≡ out.old.items ++ followed (access_terminals (access_view a.now))) }
+    ensures { OnOk result (out.new.items ≡ out.old.items
+        ++ followed (access_terminals (access_view a.now))) }
 {
     put_ident(out, &a.root)?;
     put_steps(out, a.steps.as_slice())?;
     match &a.args {
         None => Ok(()),
-        Some(es) => {
-            put_symbol(out, Symbol::OpenParen)?;
-            put_members(out, es.as_slice(), Symbol::Comma, Place::Argument)?;
-            put_symbol(out, Symbol::CloseParen)
-        }
+        Some(es) => put_arguments(out, es.as_slice()),
     }
 }
 
 #[cycle(put_exprs)]
 fn put_steps(out: &mut Vec<u8>, steps: &[AccessStep]) -> Result<(), Memory>
-    ensures { OnOk result (out.new.items ≡ out.old.items ++ followed (steps_terminals (steps_view steps.now))) }
+    ensures { OnOk result (out.new.items ≡ out.old.items
+        ++ followed (steps_terminals (steps_view steps.now))) }
 {
     for x in steps {
         put_step(out, x)?;
@@ -311,7 +347,8 @@ fn put_steps(out: &mut Vec<u8>, steps: &[AccessStep]) -> Result<(), Memory>
 #[cycle(put_exprs)]
 #[tactic(auto, using(crate::proofs::ExprViews::expr_views, crate::proofs::Appends::appends))]
 fn put_step(out: &mut Vec<u8>, x: &AccessStep) -> Result<(), Memory>
-    ensures { OnOk result (out.new.items ≡ out.old.items ++ followed (step_terminals (step_view x.now))) }
+    ensures { OnOk result (out.new.items ≡ out.old.items
+        ++ followed (step_terminals (step_view x.now))) }
 {
     match x {
         AccessStep::Dot(n) => {

@@ -4,34 +4,27 @@ ghost use Rattle.std.specs.Prelude.{◌≡◌, ◌∷◌, [], ◌++◌, OnOk};
 ghost use Rattle.rp_grammar.specs.Terminals as terminal;
 ghost use Rattle.rp_grammar.specs.declared.terminal.Word.TheVariants as word;
 ghost use Rattle.rp_grammar.specs.declared.terminal.Symbol.TheVariants as symbol;
+ghost use Rattle.rp_grammar.specs.Trees.{StmtForm as StmtShape};
 ghost use Rattle.rp_ast.specs.declared.printer.Place.TheVariants as place;
-ghost use Rattle.rp_ast.specs.Printed.{followed, in_parens, expr_terminals, value_terminals, result_terminals, block_terminals, stmts_terminals, stmt_terminals, else_terminals, block_arm_terminals, block_arms_terminals};
-ghost use Rattle.rp_ast.specs.View.{optional, expr_view, block_view, stmts_view, stmt_view, maybe_else_view, else_view, block_arm_view, block_arms_view};
+ghost use Rattle.rp_ast.specs.Printed.{followed, in_parens, expr_terminals, value_terminals, result_terminals, block_terminals, stmts_terminals, stmt_terminals, stmt_form_terminals, else_terminals, block_arm_terminals, block_arms_terminals};
+ghost use Rattle.rp_ast.specs.View.{optional, ident_view, type_view, expr_view, block_view, stmts_view, stmt_view, maybe_else_view, else_view, block_arm_view, block_arms_view};
 
 use super::Place;
-use super::expr::{put_access, put_expr, put_pattern};
+use super::expr::{put_access, put_expr, put_on, put_pattern};
 use super::token::{put_symbol, put_word};
 use super::ty::{put_ident, put_type};
 use crate::expr::ExprNode;
+use crate::ident::Ident;
 use crate::stmt::{Block, BlockArm, ElseNode, StmtForm, StmtNode};
+use crate::ty::TypeNode;
 use rp_grammar::{Symbol, Word};
 use rp_value::Memory;
-
-/// A word, and the expression in parentheses behind it.
-#[tactic(auto, using(crate::proofs::Appends::appends))]
-fn put_on(out: &mut Vec<u8>, w: Word, e: &ExprNode) -> Result<(), Memory>
-    ensures { OnOk result (out.new.items ≡ out.old.items ++ followed (terminal.word w ∷ in_parens (expr_terminals place.Whole (expr_view e.now)))) }
-{
-    put_word(out, w)?;
-    put_symbol(out, Symbol::OpenParen)?;
-    put_expr(out, e, Place::Whole)?;
-    put_symbol(out, Symbol::CloseParen)
-}
 
 /// A variable's first value.
 #[tactic(auto, using(crate::proofs::Appends::appends))]
 fn put_value(out: &mut Vec<u8>, value: &Option<ExprNode>) -> Result<(), Memory>
-    ensures { OnOk result (out.new.items ≡ out.old.items ++ followed (value_terminals (optional expr_view value.now))) }
+    ensures { OnOk result (out.new.items ≡ out.old.items
+        ++ followed (value_terminals (optional expr_view value.now))) }
 {
     match value {
         None => Ok(()),
@@ -44,7 +37,8 @@ fn put_value(out: &mut Vec<u8>, value: &Option<ExprNode>) -> Result<(), Memory>
 
 #[tactic(auto, using(crate::proofs::Appends::appends))]
 fn put_result(out: &mut Vec<u8>, value: &Option<ExprNode>) -> Result<(), Memory>
-    ensures { OnOk result (out.new.items ≡ out.old.items ++ followed (result_terminals (optional expr_view value.now))) }
+    ensures { OnOk result (out.new.items ≡ out.old.items
+        ++ followed (result_terminals (optional expr_view value.now))) }
 {
     match value {
         None => Ok(()),
@@ -52,10 +46,55 @@ fn put_result(out: &mut Vec<u8>, value: &Option<ExprNode>) -> Result<(), Memory>
     }
 }
 
+/// A variable's declaration.
+#[tactic(auto, using(crate::proofs::Appends::appends))]
+fn put_var(
+    out: &mut Vec<u8>,
+    n: &Ident,
+    t: &TypeNode,
+    value: &Option<ExprNode>,
+) -> Result<(), Memory>
+    ensures { OnOk result (out.new.items ≡ out.old.items
+        ++ followed (stmt_form_terminals (StmtShape.var
+        (ident_view n.now) (type_view t.now) (optional expr_view value.now)))) }
+{
+    put_word(out, Word::Var)?;
+    put_ident(out, n)?;
+    put_symbol(out, Symbol::Colon)?;
+    put_type(out, t)?;
+    put_value(out, value)?;
+    put_symbol(out, Symbol::Semicolon)
+}
+
+/// A new id of a type, and the variable that it is put into.
+#[tactic(auto, using(crate::proofs::Appends::appends))]
+fn put_new(out: &mut Vec<u8>, n: &Ident, t: &Ident) -> Result<(), Memory>
+    ensures { OnOk result (out.new.items ≡ out.old.items
+        ++ followed (stmt_form_terminals (StmtShape.new (ident_view n.now) (ident_view t.now)))) }
+{
+    put_ident(out, n)?;
+    put_symbol(out, Symbol::Assign)?;
+    put_word(out, Word::New)?;
+    put_ident(out, t)?;
+    put_symbol(out, Symbol::Semicolon)
+}
+
+#[tactic(auto, using(crate::proofs::Appends::appends))]
+fn put_assign(out: &mut Vec<u8>, n: &Ident, e: &ExprNode) -> Result<(), Memory>
+    ensures { OnOk result (out.new.items ≡ out.old.items
+        ++ followed (stmt_form_terminals (StmtShape.assign (ident_view n.now) (expr_view e.now)))) }
+{
+    put_ident(out, n)?;
+    put_symbol(out, Symbol::Assign)?;
+    put_expr(out, e, Place::Whole)?;
+    put_symbol(out, Symbol::Semicolon)
+}
+
 #[cycle(put_stmts)]
 #[tactic(auto, using(crate::proofs::StmtViews::stmt_views, crate::proofs::Appends::appends))]
 pub fn put_block(out: &mut Vec<u8>, b: &Block) -> Result<(), Memory>
-    ensures { OnOk result (out.new.items ≡ out.old.items ++ followed (block_terminals (block_view b.now))) }
+    ensures { OnOk result (out.new.items ≡ out.old.items
+        ++ followed (block_terminals (block_view b.now))) }
 {
     put_symbol(out, Symbol::OpenBrace)?;
     put_stmts(out, b.stmts.as_slice())?;
@@ -64,7 +103,8 @@ pub fn put_block(out: &mut Vec<u8>, b: &Block) -> Result<(), Memory>
 
 #[cycle(put_stmts)]
 fn put_stmts(out: &mut Vec<u8>, stmts: &[StmtNode]) -> Result<(), Memory>
-    ensures { OnOk result (out.new.items ≡ out.old.items ++ followed (stmts_terminals (stmts_view stmts.now))) }
+    ensures { OnOk result (out.new.items ≡ out.old.items
+        ++ followed (stmts_terminals (stmts_view stmts.now))) }
 {
     for s in stmts {
         put_stmt(out, s)?;
@@ -75,41 +115,24 @@ fn put_stmts(out: &mut Vec<u8>, stmts: &[StmtNode]) -> Result<(), Memory>
 #[cycle(put_stmts)]
 #[tactic(auto, using(crate::proofs::StmtViews::stmt_views, crate::proofs::Appends::appends))]
 fn put_stmt(out: &mut Vec<u8>, s: &StmtNode) -> Result<(), Memory>
-    ensures { OnOk result (out.new.items ≡ out.old.items ++ followed (stmt_terminals (stmt_view s.now))) }
+    ensures { OnOk result (out.new.items ≡ out.old.items
+        ++ followed (stmt_terminals (stmt_view s.now))) }
 {
     match &s.what {
-        StmtForm::Var(n, t, value) => {
-            put_word(out, Word::Var)?;
-            put_ident(out, n)?;
-            put_symbol(out, Symbol::Colon)?;
-            put_type(out, t)?;
-            put_value(out, value)?;
-            put_symbol(out, Symbol::Semicolon)
-        }
-        StmtForm::New(n, t) => {
-            put_ident(out, n)?;
-            put_symbol(out, Symbol::Assign)?;
-            put_word(out, Word::New)?;
-            put_ident(out, t)?;
-            put_symbol(out, Symbol::Semicolon)
-        }
-        StmtForm::Assign(n, e) => {
-            put_ident(out, n)?;
-            put_symbol(out, Symbol::Assign)?;
-            put_expr(out, e, Place::Whole)?;
-            put_symbol(out, Symbol::Semicolon)
-        }
+        StmtForm::Var(n, t, value) => put_var(out, n, t, value),
+        StmtForm::New(n, t) => put_new(out, n, t),
+        StmtForm::Assign(n, e) => put_assign(out, n, e),
         StmtForm::Access(a) => {
             put_access(out, a)?;
             put_symbol(out, Symbol::Semicolon)
         }
         StmtForm::If(e, b, otherwise) => {
-            put_on(out, Word::If, e)?;
+            put_on(out, Word::If, e, Place::Whole)?;
             put_block(out, b)?;
             put_maybe_else(out, otherwise)
         }
         StmtForm::Match(e, arms) => {
-            put_on(out, Word::Match, e)?;
+            put_on(out, Word::Match, e, Place::Whole)?;
             put_symbol(out, Symbol::OpenBrace)?;
             put_block_arms(out, arms.as_slice())?;
             put_symbol(out, Symbol::CloseBrace)
@@ -134,7 +157,8 @@ fn put_stmt(out: &mut Vec<u8>, s: &StmtNode) -> Result<(), Memory>
 #[cycle(put_stmts)]
 #[tactic(auto, using(crate::proofs::StmtViews::stmt_views, crate::proofs::Appends::appends))]
 fn put_maybe_else(out: &mut Vec<u8>, otherwise: &Option<ElseNode>) -> Result<(), Memory>
-    ensures { OnOk result (out.new.items ≡ out.old.items ++ followed (else_terminals (maybe_else_view otherwise.now))) }
+    ensures { OnOk result (out.new.items ≡ out.old.items
+        ++ followed (else_terminals (maybe_else_view otherwise.now))) }
 {
     match otherwise {
         None => Ok(()),
@@ -152,7 +176,8 @@ fn put_maybe_else(out: &mut Vec<u8>, otherwise: &Option<ElseNode>) -> Result<(),
 #[cycle(put_stmts)]
 #[tactic(auto, using(crate::proofs::StmtViews::stmt_views, crate::proofs::Appends::appends))]
 fn put_block_arm(out: &mut Vec<u8>, a: &BlockArm) -> Result<(), Memory>
-    ensures { OnOk result (out.new.items ≡ out.old.items ++ followed (block_arm_terminals (block_arm_view a.now))) }
+    ensures { OnOk result (out.new.items ≡ out.old.items
+        ++ followed (block_arm_terminals (block_arm_view a.now))) }
 {
     put_pattern(out, &a.pattern)?;
     put_symbol(out, Symbol::Arrow)?;
@@ -161,7 +186,8 @@ fn put_block_arm(out: &mut Vec<u8>, a: &BlockArm) -> Result<(), Memory>
 
 #[cycle(put_stmts)]
 fn put_block_arms(out: &mut Vec<u8>, arms: &[BlockArm]) -> Result<(), Memory>
-    ensures { OnOk result (out.new.items ≡ out.old.items ++ followed (block_arms_terminals (block_arms_view arms.now))) }
+    ensures { OnOk result (out.new.items ≡ out.old.items
+        ++ followed (block_arms_terminals (block_arms_view arms.now))) }
 {
     for a in arms {
         put_block_arm(out, a)?;

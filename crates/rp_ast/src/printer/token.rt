@@ -1,9 +1,10 @@
 //! Single tokens, each behind a space.
 
-ghost use Rattle.std.specs.Prelude.{◌≡◌, ◌∷◌, [], ◌++◌, OnOk};
+ghost use Rattle.std.specs.Prelude.{◌≡◌, ◌∷◌, [], ◌++◌, false, OnOk};
 ghost use Rattle.rp_grammar.specs.Spelling.{spelling, mark};
 ghost use Rattle.rp_grammar.specs.Terminals as terminal;
 ghost use Rattle.rp_ast.specs.Printed.{followed, escape, written, separator};
+ghost use Rattle.rp_ast.specs.Words.{is_outer};
 
 use rp_grammar::{Symbol, Word};
 use rp_value::Memory;
@@ -27,6 +28,18 @@ fn word_text(w: Word) -> &'static [u8]
         Word::Assert => b"assert",
         Word::Return => b"return",
         Word::New => b"new",
+        Word::Requires => b"requires",
+        Word::Abort => b"abort",
+        _ => inner_word_text(w),
+    }
+}
+
+/// How a word that stands in types and expressions alone is written.
+fn inner_word_text(w: Word) -> &'static [u8]
+    requires { is_outer w ≡ false }
+    ensures { result.now ≡ spelling w }
+{
+    match w {
         Word::Forall => b"forall",
         Word::Exists => b"exists",
         Word::True => b"true",
@@ -56,8 +69,7 @@ fn word_text(w: Word) -> &'static [u8]
         Word::Counter => b"Counter",
         Word::MapUw => b"MapUw",
         Word::MapDw => b"MapDw",
-        Word::Requires => b"requires",
-        Word::Abort => b"abort",
+        _ => unreachable!(),
     }
 }
 
@@ -133,7 +145,8 @@ pub fn put_separator(out: &mut Vec<u8>, m: Symbol, i: usize) -> Result<(), Memor
 }
 
 pub fn put_name(out: &mut Vec<u8>, bytes: &[u8]) -> Result<(), Memory>
-    ensures { OnOk result (out.new.items ≡ out.old.items ++ followed (terminal.name bytes.now ∷ [])) }
+    ensures { OnOk result (out.new.items ≡ out.old.items
+        ++ followed (terminal.name bytes.now ∷ [])) }
 {
     put(out, bytes)
 }
@@ -170,7 +183,8 @@ fn put_escaped(out: &mut Vec<u8>, meant: &[u8]) -> Result<(), Memory>
 }
 
 pub fn put_str(out: &mut Vec<u8>, meant: &[u8]) -> Result<(), Memory>
-    ensures { OnOk result (out.new.items ≡ out.old.items ++ followed (terminal.str meant.now ∷ [])) }
+    ensures { OnOk result (out.new.items ≡ out.old.items
+        ++ followed (terminal.str meant.now ∷ [])) }
 {
     out.extend_from_slice(b" \"")?;
     put_escaped(out, meant)?;

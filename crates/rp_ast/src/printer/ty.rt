@@ -11,14 +11,16 @@ use rp_grammar::{Symbol, Word};
 use rp_value::Memory;
 
 pub fn put_ident(out: &mut Vec<u8>, n: &Ident) -> Result<(), Memory>
-    ensures { OnOk result (out.new.items ≡ out.old.items ++ followed (name_terminal (ident_view n.now) ∷ [])) }
+    ensures { OnOk result (out.new.items ≡ out.old.items
+        ++ followed (name_terminal (ident_view n.now) ∷ [])) }
 {
     put_name(out, n.text.as_slice())
 }
 
 #[tactic(auto, using(crate::proofs::TypeViews::type_views, crate::proofs::Appends::appends))]
 pub fn put_type(out: &mut Vec<u8>, t: &TypeNode) -> Result<(), Memory>
-    ensures { OnOk result (out.new.items ≡ out.old.items ++ followed (type_terminals (type_view t.now))) }
+    ensures { OnOk result (out.new.items ≡ out.old.items
+        ++ followed (type_terminals (type_view t.now))) }
 {
     match &t.what {
         TypeForm::Named(n) => put_name(out, n.as_slice()),
@@ -38,7 +40,8 @@ pub fn put_type(out: &mut Vec<u8>, t: &TypeNode) -> Result<(), Memory>
 
 #[tactic(auto, using(crate::proofs::Appends::appends))]
 pub fn put_param(out: &mut Vec<u8>, p: &Param) -> Result<(), Memory>
-    ensures { OnOk result (out.new.items ≡ out.old.items ++ followed (param_terminals (param_view p.now))) }
+    ensures { OnOk result (out.new.items ≡ out.old.items
+        ++ followed (param_terminals (param_view p.now))) }
 {
     put_ident(out, &p.name)?;
     put_symbol(out, Symbol::Colon)?;
@@ -46,7 +49,8 @@ pub fn put_param(out: &mut Vec<u8>, p: &Param) -> Result<(), Memory>
 }
 
 pub fn put_params(out: &mut Vec<u8>, ps: &[Param]) -> Result<(), Memory>
-    ensures { OnOk result (out.new.items ≡ out.old.items ++ followed (params_terminals (params_view ps.now))) }
+    ensures { OnOk result (out.new.items ≡ out.old.items
+        ++ followed (params_terminals (params_view ps.now))) }
 {
     for (i, p) in ps.iter().enumerate() {
         put_separator(out, Symbol::Comma, i)?;
@@ -58,7 +62,8 @@ pub fn put_params(out: &mut Vec<u8>, ps: &[Param]) -> Result<(), Memory>
 /// The parameters in parentheses, which are there even around none.
 #[tactic(auto, using(crate::proofs::Appends::appends))]
 pub fn put_param_list(out: &mut Vec<u8>, ps: &[Param]) -> Result<(), Memory>
-    ensures { OnOk result (out.new.items ≡ out.old.items ++ followed (in_parens (params_terminals (params_view ps.now)))) }
+    ensures { OnOk result (out.new.items ≡ out.old.items
+        ++ followed (in_parens (params_terminals (params_view ps.now)))) }
 {
     put_symbol(out, Symbol::OpenParen)?;
     put_params(out, ps)?;
