@@ -1,12 +1,13 @@
 -- The tokens of a text are readable, and what their bytes say.
-use Rattle.std.proofs.Common.{◌≡◌, ◌≢◌, ℕ, ◌+◌, ◌-◌, ◌*◌, ◌≤◌, ◌==◌, true, false, not, if◌then◌else◌, List, [], ◌∷◌, ◌++◌, IsTrue, length, take, drop, refl, sym, ap, subst, ◌∙◌, arith, length-drop}
+use Rattle.std.proofs.Common.{◌≡◌, ◌≢◌, ℕ, ◌+◌, ◌-◌, ◌*◌, ◌≤◌, ◌==◌, true, false, not, if◌then◌else◌, List, [], ◌∷◌, ◌++◌, IsTrue, Option, Some, None, IsSome, length, take, drop, refl, sym, ap, subst, ◌∙◌, arith, length-drop, length-append}
 use Rattle.std.specs.List.{AllByRecursion}
 use Rattle.std.proofs.lemmas.List.{drop-drop, take_at}
-use Rattle.rp_grammar.specs.Bytes.{is_plain, is_escaped, value, value_from, greatest}
+use Rattle.rp_grammar.specs.Bytes.{is_plain, is_escaped, is_one_of, reserved, symbols, value, value_from, greatest}
 use Rattle.rp_grammar.specs.Pieces.{Begins, Shape, Chars, InRange}
 use Rattle.rp_grammar.specs.Pieces as pieces
 use Rattle.rp_grammar.specs.Lexed.{Lexed, Spelled, token_at}
-use Rattle.rp_grammar.specs.Toks.{slice, Means, escaped}
+use Rattle.rp_grammar.specs.Toks.{slice, Means, escaped, IsTerminal}
+use Rattle.rp_grammar.specs.Terminals.{str}
 use Rattle.rp_grammar.specs.Toks as toks
 use Rattle.rp_grammar.specs.declared.Token.{Token}
 use Rattle.rp_grammar.specs.declared.TokenKind.{TokenKind}
@@ -66,6 +67,31 @@ pub means : {bs : List ℕ} → Chars bs → Means bs (meant bs)
 means pieces.Chars.none = toks.Means.none
 means (pieces.Chars.plain {b = b} {bs = bs} p c) = subst (Means (b ∷ bs)) (sym (plain_meant b bs (not_backslash b p))) (toks.Means.plain p (means c))
 means (pieces.Chars.escape {b = b} {bs = bs} p c) = toks.Means.escape p (means c)
+
+pub not_none : {X : Type 0} (o : Option X) → o ≡ None → IsSome o → ⊥
+not_none None e h = cc
+not_none (Some x) e h = cc
+
+pub is_reserved : {bs : List ℕ} → Shape kind.Word bs → IsTrue (is_one_of reserved bs)
+is_reserved (pieces.Shape.word h) = h
+
+pub is_mark : {bs : List ℕ} → Shape kind.Symbol bs → IsTrue (is_one_of symbols bs)
+is_mark (pieces.Shape.symbol h) = h
+
+quoted_length : (bs body : List ℕ) → bs ≡ 34 ∷ (body ++ 34 ∷ []) → length bs ≡ length body + 2
+quoted_length bs body e = omega (arith, ap length e, length-append body (34 ∷ []))
+
+pub has_quotes : {bs : List ℕ} → Shape kind.Str bs → 2 ≤ length bs
+has_quotes {bs = bs} (pieces.Shape.str body e c) = omega (arith, quoted_length bs body e)
+
+inside_is : (bs body : List ℕ) → bs ≡ 34 ∷ (body ++ 34 ∷ []) → take (length bs - 1 - 1) (drop 1 bs) ≡ body
+inside_is bs body e =
+    let size : length bs - 1 - 1 ≡ length body = omega (arith, quoted_length bs body e) in
+    ap (λ n. take n (drop 1 bs)) size ∙ ap (λ xs. take (length body) (drop 1 xs)) e ∙ take_at body (34 ∷ []) (length body) refl
+
+-- what stands between a string's quotes
+pub string_terminal : (bs : List ℕ) → Shape kind.Str bs → IsTerminal bs kind.Str (str (meant (take (length bs - 1 - 1) (drop 1 bs))))
+string_terminal bs (pieces.Shape.str body e c) = (body, meant body, e, means c, ap (λ x. str (meant x)) (inside_is bs body e))
 
 -- further digits make a number no smaller
 pub no_smaller : (n : ℕ) (bs : List ℕ) → n ≤ value_from n bs
