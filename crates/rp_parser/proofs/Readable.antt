@@ -1,13 +1,14 @@
 -- The tokens of a text are readable, and what their bytes say.
 use Rattle.std.proofs.Common.{◌≡◌, ◌≢◌, ℕ, ◌+◌, ◌-◌, ◌*◌, ◌≤◌, ◌==◌, true, false, not, if◌then◌else◌, List, [], ◌∷◌, ◌++◌, IsTrue, Option, Some, None, IsSome, length, take, drop, refl, sym, ap, subst, ◌∙◌, arith, length-drop, length-append}
 use Rattle.std.specs.List.{AllByRecursion}
-use Rattle.std.proofs.lemmas.List.{drop-drop, take_at}
+use Rattle.std.proofs.lemmas.List.{drop-drop, take_at, append-nil, append_assoc}
+use Rattle.rp_span.specs.declared.Span.{Span}
 use Rattle.rp_grammar.specs.Bytes.{is_plain, is_escaped, is_one_of, reserved, symbols, value, value_from, greatest}
 use Rattle.rp_grammar.specs.Pieces.{Begins, Shape, Chars, InRange}
 use Rattle.rp_grammar.specs.Pieces as pieces
 use Rattle.rp_grammar.specs.Lexed.{Lexed, Spelled, token_at}
-use Rattle.rp_grammar.specs.Toks.{slice, Means, escaped, IsTerminal}
-use Rattle.rp_grammar.specs.Terminals.{str}
+use Rattle.rp_grammar.specs.Toks.{slice, Means, escaped, IsTerminal, ToksOf}
+use Rattle.rp_grammar.specs.Terminals.{str, Tok}
 use Rattle.rp_grammar.specs.Toks as toks
 use Rattle.rp_grammar.specs.declared.Token.{Token}
 use Rattle.rp_grammar.specs.declared.TokenKind.{TokenKind}
@@ -16,7 +17,14 @@ use Rattle.rp_grammar.specs.declared.Piece.{Piece}
 use Rattle.rp_grammar.specs.declared.Piece.TheVariants as piece
 use Rattle.rp_grammar.proofs.Moving.{moves}
 use Rattle.rp_grammar.proofs.Places.{all_spelled}
-use Rattle.rp_parser.specs.Marks.{meant, IsReadable}
+use Rattle.rp_parser.specs.declared.mark.Kind.{Kind}
+use Rattle.rp_parser.specs.declared.mark.Mark.{Mark}
+use Rattle.rp_parser.specs.Marks.{meant, terminal_of, tok_of, IsReadable}
+use Rattle.rp_parser.specs.Marks as marks
+use Rattle.rp_parser.proofs.Lists.{map_pushed}
+
+abbrev pub marked : Kind → Span → Mark
+marked kd s = record { kind = kd; span = s }
 
 abbrev pub RangeOf : List ℕ → Piece → Type 0
 RangeOf bytes (piece.Token k n) = InRange k (take n bytes)
@@ -104,3 +112,16 @@ digit_fits total b rest after digits is e g =
     let h = no_smaller (total * 10 + (b - 48)) after in
     let e : value_from (total * 10 + (b - 48)) after ≡ value digits = ap (value_from total) (sym is) ∙ e in
     omega (arith, h, e, g)
+
+-- where no token is left, all are read
+pub all_read : (text : List ℕ) (rest tokens : List Token) (ms : List Mark) → length rest ≡ 0 → ((us : List Tok) → ToksOf text rest us → ToksOf text tokens (marks.toks ms ++ us)) → ToksOf text tokens (marks.toks ms)
+all_read text [] tokens ms h f = subst (ToksOf text tokens) (append-nil (marks.toks ms)) (f [] toks.ToksOf.none)
+all_read text (t ∷ ts) tokens ms h f = absurd (omega arith)
+
+-- one more token
+pub one_read : (text : List ℕ) (rest after tokens : List Token) (t : Token) (kd : Kind) (all ms : List Mark) → rest ≡ t ∷ after → IsTerminal (slice text t.span) t.kind (terminal_of kd) → all ≡ ms ++ marked kd t.span ∷ [] → ((us : List Tok) → ToksOf text rest us → ToksOf text tokens (marks.toks ms ++ us)) → (us : List Tok) → ToksOf text after us → ToksOf text tokens (marks.toks all ++ us)
+one_read text rest after tokens t kd all ms is i h f us d =
+    let m = marked kd t.span in
+    let u = tok_of m in
+    let longer : marks.toks ms ++ (u ∷ us) ≡ marks.toks all ++ us = sym (append_assoc (marks.toks ms) (u ∷ []) us) ∙ ap (λ xs. xs ++ us) (map_pushed tok_of all ms m h) in
+    subst (ToksOf text tokens) longer (f (u ∷ us) (subst (λ r. ToksOf text r (u ∷ us)) (sym is) (toks.ToksOf.more i d)))
