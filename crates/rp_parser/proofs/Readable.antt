@@ -1,17 +1,16 @@
 -- The tokens of a text are readable, and what their bytes say.
-use Rattle.std.proofs.Common.{◌≡◌, ◌≢◌, ℕ, ◌+◌, ◌-◌, ◌*◌, ◌≤◌, ◌==◌, true, false, not, if◌then◌else◌, List, [], ◌∷◌, ◌++◌, IsTrue, Option, Some, None, IsSome, length, take, drop, refl, sym, ap, subst, ◌∙◌, arith, length-drop, length-append}
+use Rattle.std.proofs.Common.{◌≡◌, ◌≢◌, ℕ, ◌+◌, ◌-◌, ◌*◌, ◌≤◌, List, [], ◌∷◌, ◌++◌, IsTrue, Option, Some, None, IsSome, length, take, drop, refl, sym, ap, subst, ◌∙◌, arith, length-drop, length-append}
 use Rattle.std.specs.List.{AllByRecursion}
 use Rattle.std.proofs.lemmas.List.{drop-drop, take_at, append-nil, append_assoc}
 use Rattle.rp_span.specs.declared.Span.{Span}
-use Rattle.rp_grammar.specs.Bytes.{is_plain, is_escaped, is_one_of, reserved, symbols, value, value_from, greatest}
+use Rattle.rp_grammar.specs.Bytes.{is_plain, is_one_of, reserved, symbols, value, value_from, greatest}
 use Rattle.rp_grammar.specs.Pieces.{Begins, Shape, Chars, InRange}
 use Rattle.rp_grammar.specs.Pieces as pieces
-use Rattle.rp_grammar.specs.Lexed.{Lexed, Spelled, token_at}
+use Rattle.rp_grammar.specs.Lexed.{Lexed, Spelled}
 use Rattle.rp_grammar.specs.Toks.{slice, Means, escaped, IsTerminal, ToksOf}
 use Rattle.rp_grammar.specs.Terminals.{str, Tok}
 use Rattle.rp_grammar.specs.Toks as toks
 use Rattle.rp_grammar.specs.declared.Token.{Token}
-use Rattle.rp_grammar.specs.declared.TokenKind.{TokenKind}
 use Rattle.rp_grammar.specs.declared.TokenKind.TheVariants as kind
 use Rattle.rp_grammar.specs.declared.Piece.{Piece}
 use Rattle.rp_grammar.specs.declared.Piece.TheVariants as piece

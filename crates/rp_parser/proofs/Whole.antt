@@ -1,5 +1,5 @@
 -- Answers on marks are answers on texts.
-use Rattle.std.proofs.Common.{◌≡◌, ℕ, ◌-◌, ◌<◌, ◌≤◌, List, [], ◌∷◌, length, Result, Ok, Err, IfErr, refl, sym, ap, subst, ◌∙◌, arith, suc}
+use Rattle.std.proofs.Common.{◌≡◌, ℕ, ◌-◌, ◌<◌, ◌≤◌, List, [], length, Result, Ok, Err, IfErr, refl, sym, ap, subst, arith, suc}
 use Rattle.rp_grammar.specs.Terminals.{Tok}
 use Rattle.rp_grammar.specs.Trees.{DeclTree}
 use Rattle.rp_grammar.specs.declared.Token.{Token}

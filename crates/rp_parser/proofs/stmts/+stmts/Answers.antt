@@ -1,10 +1,10 @@
-use Rattle.std.proofs.Common.{◌≡◌, ℕ, ◌≤◌, List, length, arith, rules, refl, ap, sym, subst, ◌∙◌, suc, add-one, [], ◌∷◌, ◌++◌, map}
+use Rattle.std.proofs.Common.{List, arith, rules, refl, ap, sym, subst, ◌∙◌, suc, add-one, [], ◌∷◌, ◌++◌, map}
 use Rattle.rp_span.specs.declared.Span.{Span}
 use Rattle.rp_grammar.specs.declared.terminal.Symbol.TheVariants as symbol
-use Rattle.rp_grammar.specs.Trees.{Ident, PatternTree, ExprTree, BlockTree, StmtTree, StmtForm, ElseTree, BlockArmTree, stmts, block_arms}
-use Rattle.rp_grammar.specs.Parts.{Part, part, tree_of, join}
+use Rattle.rp_grammar.specs.Trees.{PatternTree, ExprTree, BlockTree, StmtTree, StmtForm, ElseTree, BlockArmTree, stmts, block_arms}
+use Rattle.rp_grammar.specs.Parts.{Part, tree_of, join}
 use Rattle.rp_grammar.specs.Stmts.{block_span, stmt_span}
-use Rattle.rp_ast.specs.View.{ident_view, pattern_view, expr_view, stmt_view, block_view, block_arm_view, else_view}
+use Rattle.rp_ast.specs.View.{pattern_view, expr_view, stmt_view, block_view, block_arm_view, else_view}
 use Rattle.rp_tokens.specs.MachineStates.{want_symbol, in_stmts, more_if, in_block_arms}
 use Rattle.rp_tokens.specs.MachineStmts.{in_block, want_block, in_block_arm, in_named}
 use Rattle.rp_tokens.specs.Machine.{bounded}

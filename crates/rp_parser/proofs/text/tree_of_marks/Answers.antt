@@ -1,5 +1,5 @@
 use Rattle.rp_ast.specs.View.{decls_view}
-use Rattle.std.proofs.Common.{◌-◌, length, subst}
+use Rattle.std.proofs.Common.{◌-◌, subst}
 use Rattle.rp_grammar.specs.Begins.{IsFirstBad, IsTooDeep}
 use Rattle.rp_tokens.proofs.Places.{found_tree}
 use Rattle.rp_parser.specs.Marks.{toks}
