@@ -1,8 +1,8 @@
 -- Chains of operands, and the end of a quantifier's body.
-use Rattle.std.proofs.Common.{◌≡◌, Bool, false, cond, List, [], ◌∷◌, ◌++◌, Option, None, map, refl, ap, sym, subst, ◌∙◌}
+use Rattle.std.proofs.Common.{◌≡◌, false, List, [], ◌∷◌, ◌++◌, None, map, refl, ap, sym, ◌∙◌}
 use Rattle.rp_span.specs.declared.Span.{Span}
 use Rattle.rp_grammar.specs.declared.terminal.Symbol.TheVariants as symbol
-use Rattle.rp_grammar.specs.Terminals.{Terminal, name, word, int, str, symbol, end, Tok, at}
+use Rattle.rp_grammar.specs.Terminals.{Terminal, symbol, Tok, at}
 use Rattle.rp_grammar.specs.Trees.{ExprTree, ExprForm, exprs}
 use Rattle.rp_grammar.specs.Parts.{Part, part, tree_of, extent_of, trees_of, reach, join}
 use Rattle.rp_grammar.specs.Exprs.{goes_on, and_tree, or_tree, and_part, or_part}

@@ -1,5 +1,5 @@
 -- Answers on marks are answers on texts.
-use Rattle.std.proofs.Common.{◌≡◌, ℕ, ◌-◌, ◌≤◌, List, [], ◌∷◌, length, Result, Ok, Err, refl, sym, ap, subst, ◌∙◌, arith, suc}
+use Rattle.std.proofs.Common.{◌≡◌, ℕ, ◌-◌, ◌<◌, ◌≤◌, List, [], length, Result, Ok, Err, IfErr, refl, sym, ap, subst, arith, suc}
 use Rattle.rp_grammar.specs.Terminals.{Tok}
 use Rattle.rp_grammar.specs.Trees.{DeclTree}
 use Rattle.rp_grammar.specs.declared.Token.{Token}
@@ -7,6 +7,10 @@ use Rattle.rp_grammar.specs.Toks.{ToksOf}
 use Rattle.rp_grammar.specs.Toks as grammar
 use Rattle.rp_grammar.specs.Begins.{IsTree, IsTreeWithin, IsFirstBad, IsTooDeep, EndsInEnd}
 use Rattle.rp_grammar.specs.Texts.{HasToks, IsTextWithin}
+use Rattle.rp_grammar.specs.Lexed.{Lexed}
+use Rattle.rp_parser.specs.declared.mark.Mark.{Mark}
+use Rattle.rp_parser.specs.Marks.{toks}
+use Rattle.rp_parser.proofs.Steps.{length_toks}
 use Rattle.rp_grammar.proofs.Toks.{one_text_toks}
 use Rattle.rp_ast.specs.declared.decl.Ast.{Ast}
 use Rattle.rp_ast.specs.View.{ast_view}
@@ -65,3 +69,14 @@ every_too_deep bytes us (Err err.Memory) has a vs k other h = tt
 
 pub fits : (n m l : ℕ) → n ≡ m → l ≤ n → l ≤ m
 fits n m l e h = omega arith
+
+-- what is answered on the marks of a text is answered on its tokens
+pub text_toks : (bytes : List ℕ) (tokens seen : List Token) (ms items : List Mark) → Lexed 0 bytes tokens → seen ≡ tokens → ms ≡ items → ToksOf bytes seen (toks items) → HasToks bytes (toks ms)
+text_toks bytes tokens seen ms items l e i t = (tokens, l, subst (λ ts. ToksOf bytes ts (toks ms)) e (subst (λ ms. ToksOf bytes seen (toks ms)) (sym i) t))
+
+pub few_marks : (bytes : List ℕ) (tokens seen : List Token) (ms items : List Mark) → length tokens < 4294967295 → seen ≡ tokens → ms ≡ items → ToksOf bytes seen (toks items) → length ms < 4294967296
+few_marks bytes tokens seen ms items few e i t = omega (arith, ap length e, ap length i, length_of t, length_toks items)
+
+pub fault_of : (bytes : List ℕ) (us : List Tok) (r : Result Ast ParseErr) → HasToks bytes us → IsAnswer us r → IfErr r (IsFault bytes)
+fault_of bytes us (Ok ast) has a = tt
+fault_of bytes us (Err e) has a = is_fault bytes us e has a

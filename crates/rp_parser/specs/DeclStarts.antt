@@ -1,5 +1,5 @@
 -- Where the machine stands behind the first token of a declaration, and inside declarations.
-use Rattle.std.specs.Prelude.{◌≡◌, List, [], ◌∷◌, Option, None, refl}
+use Rattle.std.specs.Prelude.{◌≡◌, List, [], ◌∷◌, None, refl}
 use Rattle.rp_span.specs.declared.Span.{Span}
 use Rattle.rp_grammar.specs.declared.terminal.Symbol.TheVariants as symbol
 use Rattle.rp_grammar.specs.Trees.{Ident, TypeTree, ParamTree, QueryTree, ProcTree, DeclForm, DeclTree}

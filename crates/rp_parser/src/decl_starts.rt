@@ -64,8 +64,8 @@ pub(crate) fn bar_sign(marks: Marks) -> Option<Marks>
     ensures shorter { IfSome result (λ rest. length rest.now < length marks.now) }
     ensures reads { (cs : Items ConTree) (k : Items ConTree → State)
         → MatchOption result
-            (bounded 64 (more_cons cs k) (toks marks.now) ≡ bounded 64 (k cs) (toks marks.now))
-            (λ rest. bounded 64 (more_cons cs k) (toks marks.now) ≡ bounded 64 (want_con (λ c. more_cons (cs ++ c ∷ []) k)) (toks rest.now)) }
+        (bounded 64 (more_cons cs k) (toks marks.now) ≡ bounded 64 (k cs) (toks marks.now))
+        (λ rest. bounded 64 (more_cons cs k) (toks marks.now) ≡ bounded 64 (want_con (λ c. more_cons (cs ++ c ∷ []) k)) (toks rest.now)) }
 {
     let (_, rest) = behind(marks, Symbol::Bar)?;
     Some(rest)
@@ -76,8 +76,8 @@ pub(crate) fn claim_sign(marks: Marks) -> Option<(&[u8], Span, Marks)>
     ensures shorter { IfSome result (λ x. length x.2.now < length marks.now) }
     ensures reads { (s : SpanValue) (k : DeclTree → State)
         → MatchOption result
-            (bounded 64 (in_invariant s k) (toks marks.now) ≡ bounded 64 (want_claim s None k) (toks marks.now))
-            (λ x. bounded 64 (in_invariant s k) (toks marks.now) ≡ bounded 64 (want_claim s (Some (ident x.0.now x.1)) k) (toks x.2.now)) }
+        (bounded 64 (in_invariant s k) (toks marks.now) ≡ bounded 64 (want_claim s None k) (toks marks.now))
+        (λ x. bounded 64 (in_invariant s k) (toks marks.now) ≡ bounded 64 (want_claim s (Some (ident x.0.now x.1)) k) (toks x.2.now)) }
 {
     let (first, rest) = marks.split_first()?;
     let Kind::Name(bytes) = first.kind else {

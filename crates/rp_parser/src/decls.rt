@@ -27,11 +27,7 @@ use rp_value::List;
 use std::alloc::Global;
 
 /// The name that a declaration of a type gives, and its whole span.
-fn read_declared(
-    alloc: Global,
-    start: Span,
-    marks: Marks,
-) -> Result<(Ident, Span, Marks), Fault>
+fn read_declared(alloc: Global, start: Span, marks: Marks) -> Result<(Ident, Span, Marks), Fault>
     ensures shorter { IfOk result (λ x. length x.2.now < length marks.now) }
     ensures reads { (f : IdentTree → DeclShape) (k : DeclTree → State)
         → Gives result (bounded 64 (in_type f start k) (toks marks.now)) (λ x. bounded 64 (k (DeclTree.node x.1 (f (ident_view x.0)))) (toks x.2.now)) }

@@ -16,14 +16,18 @@ ghost use Rattle.rp_parser.specs.Reading.{Gives};
 ghost use Rattle.rp_parser.specs.ExprStarts.{quantifier_of, want_comparison};
 ghost use Rattle.rp_parser.specs.Signs.{step_next};
 
-use crate::expr_starts::{Leaf, OperandStart, PrimStart, QuantifierKind, number, operand_first, prim_first};
+use crate::expr_starts::{
+    Leaf, OperandStart, PrimStart, QuantifierKind, number, operand_first, prim_first,
+};
 use crate::fault::Fault;
 use crate::leaves::{ident, leaf_node, negative, quantified, sum};
 use crate::mark::Marks;
 use crate::next::{join, name, optional, symbol, symbol_within};
 use crate::patterns::read_arm_pattern;
-use crate::signs::{BoundSign, StepSign, and_sign, args_sign, bound_sign, compare_sign, dot_step};
-use crate::signs::{expr_comma, implies_sign, or_sign, step_sign, sum_sign};
+use crate::signs::{
+    BoundSign, StepSign, and_sign, args_sign, bound_sign, compare_sign, dot_step, expr_comma,
+    implies_sign, or_sign, step_sign, sum_sign,
+};
 use crate::types::read_type;
 use rp_ast::build::expr;
 use rp_ast::{AccessNode, AccessStep, ExprArm, ExprNode, Ident, Param};
@@ -57,11 +61,7 @@ pub(crate) fn read_expr(
 }
 
 #[cycle(exprs)]
-fn read_or(
-    alloc: Global,
-    marks: Marks,
-    depth: u32,
-) -> Result<(ExprNode, Span, Marks), Fault>
+fn read_or(alloc: Global, marks: Marks, depth: u32) -> Result<(ExprNode, Span, Marks), Fault>
     requires { depth ≤ 65 }
     ensures shallow { IfOk result (λ _. depth ≤ 64) }
     ensures shorter { IfOk result (λ x. length x.2.now < length marks.now) }
@@ -110,11 +110,7 @@ fn read_or_chain(
 }
 
 #[cycle(exprs)]
-fn read_and(
-    alloc: Global,
-    marks: Marks,
-    depth: u32,
-) -> Result<(ExprNode, Span, Marks), Fault>
+fn read_and(alloc: Global, marks: Marks, depth: u32) -> Result<(ExprNode, Span, Marks), Fault>
     requires { depth ≤ 65 }
     ensures shallow { IfOk result (λ _. depth ≤ 64) }
     ensures shorter { IfOk result (λ x. length x.2.now < length marks.now) }
@@ -161,11 +157,7 @@ fn read_and_chain(
 }
 
 #[cycle(exprs)]
-fn read_operand(
-    alloc: Global,
-    marks: Marks,
-    depth: u32,
-) -> Result<(ExprNode, Span, Marks), Fault>
+fn read_operand(alloc: Global, marks: Marks, depth: u32) -> Result<(ExprNode, Span, Marks), Fault>
     requires { depth ≤ 65 }
     ensures shallow { IfOk result (λ _. depth ≤ 64) }
     ensures shorter { IfOk result (λ x. length x.2.now < length marks.now) }
@@ -211,7 +203,11 @@ fn read_bound(
     let (body, extent, end) = read_scope(alloc, quantifier, after, depth)?;
     let span = join(start, extent);
     let variable = Param { name, ty };
-    Ok((quantified(alloc, quantifier, span, variable, body)?, span, end))
+    Ok((
+        quantified(alloc, quantifier, span, variable, body)?,
+        span,
+        end,
+    ))
 }
 
 /// What follows a quantified variable: a further one, or the body.
@@ -263,11 +259,7 @@ fn read_comparison(
 }
 
 #[cycle(exprs)]
-fn read_sum(
-    alloc: Global,
-    marks: Marks,
-    depth: u32,
-) -> Result<(ExprNode, Span, Marks), Fault>
+fn read_sum(alloc: Global, marks: Marks, depth: u32) -> Result<(ExprNode, Span, Marks), Fault>
     requires { depth ≤ 65 }
     ensures shallow { IfOk result (λ _. depth ≤ 64) }
     ensures shorter { IfOk result (λ x. length x.2.now < length marks.now) }
@@ -290,11 +282,7 @@ fn read_sum(
 
 /// An operand of a sum.
 #[cycle(exprs)]
-fn read_prim(
-    alloc: Global,
-    marks: Marks,
-    depth: u32,
-) -> Result<(ExprNode, Span, Marks), Fault>
+fn read_prim(alloc: Global, marks: Marks, depth: u32) -> Result<(ExprNode, Span, Marks), Fault>
     requires { depth ≤ 65 }
     ensures shallow { IfOk result (λ _. depth ≤ 64) }
     ensures shorter { IfOk result (λ x. length x.2.now < length marks.now) }
@@ -355,11 +343,7 @@ pub(crate) fn read_closed(
 
 /// Expressions with commas between them, one at least.
 #[cycle(exprs)]
-fn read_exprs(
-    alloc: Global,
-    marks: Marks,
-    depth: u32,
-) -> Result<(List<ExprNode>, Marks), Fault>
+fn read_exprs(alloc: Global, marks: Marks, depth: u32) -> Result<(List<ExprNode>, Marks), Fault>
     requires { depth ≤ 65 }
     ensures shallow { IfOk result (λ _. depth ≤ 64) }
     ensures shorter { IfOk result (λ x. length x.1.now < length marks.now) }
@@ -420,11 +404,7 @@ fn read_match(
 
 /// Arms with commas between them, one at least.
 #[cycle(exprs)]
-fn read_arms(
-    alloc: Global,
-    marks: Marks,
-    depth: u32,
-) -> Result<(List<ExprArm>, Marks), Fault>
+fn read_arms(alloc: Global, marks: Marks, depth: u32) -> Result<(List<ExprArm>, Marks), Fault>
     requires { depth ≤ 65 }
     ensures shallow { IfOk result (λ _. depth ≤ 64) }
     ensures shorter { IfOk result (λ x. length x.1.now < length marks.now) }
@@ -446,11 +426,7 @@ fn read_arms(
 
 /// A pattern and its expression.
 #[cycle(exprs)]
-fn read_arm(
-    alloc: Global,
-    marks: Marks,
-    depth: u32,
-) -> Result<(ExprArm, Marks), Fault>
+fn read_arm(alloc: Global, marks: Marks, depth: u32) -> Result<(ExprArm, Marks), Fault>
     requires { depth ≤ 65 }
     ensures shallow { IfOk result (λ _. depth ≤ 64) }
     ensures shorter { IfOk result (λ x. length x.1.now < length marks.now) }

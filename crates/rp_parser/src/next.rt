@@ -92,16 +92,16 @@ pub(crate) fn comma(marks: Marks, depth: u32) -> Option<Marks>
     requires { depth ≤ 64 }
     ensures params { (d : ℕ) → d ≡ depth → (ps : Items ParamTree) (k : Items ParamTree → State)
         → MatchOption result
-            (bounded 64 (more_params d ps k) (toks marks.now) ≡ bounded 64 (k ps) (toks marks.now))
-            (λ rest. bounded 64 (more_params d ps k) (toks marks.now) ≡ bounded 64 (want_param d (λ p. more_params d (ps ++ p ∷ []) k)) (toks rest.now)) }
+        (bounded 64 (more_params d ps k) (toks marks.now) ≡ bounded 64 (k ps) (toks marks.now))
+        (λ rest. bounded 64 (more_params d ps k) (toks marks.now) ≡ bounded 64 (want_param d (λ p. more_params d (ps ++ p ∷ []) k)) (toks rest.now)) }
     ensures fields { (d : ℕ) → d ≡ depth → (fs : Items FieldTree) (k : Items FieldTree → State)
         → MatchOption result
-            (bounded 64 (more_fields d fs k) (toks marks.now) ≡ bounded 64 (k fs) (toks marks.now))
-            (λ rest. bounded 64 (more_fields d fs k) (toks marks.now) ≡ bounded 64 (want_field d (λ f. more_fields d (fs ++ f ∷ []) k)) (toks rest.now)) }
+        (bounded 64 (more_fields d fs k) (toks marks.now) ≡ bounded 64 (k fs) (toks marks.now))
+        (λ rest. bounded 64 (more_fields d fs k) (toks marks.now) ≡ bounded 64 (want_field d (λ f. more_fields d (fs ++ f ∷ []) k)) (toks rest.now)) }
     ensures names { (d : ℕ) → d ≡ depth → (ns : Items IdentTree) (k : Items IdentTree → State)
         → MatchOption result
-            (bounded 64 (more_names d ns k) (toks marks.now) ≡ bounded 64 (k ns) (toks marks.now))
-            (λ rest. bounded 64 (more_names d ns k) (toks marks.now) ≡ bounded 64 (want_name d (λ n. more_names d (ns ++ n ∷ []) k)) (toks rest.now)) }
+        (bounded 64 (more_names d ns k) (toks marks.now) ≡ bounded 64 (k ns) (toks marks.now))
+        (λ rest. bounded 64 (more_names d ns k) (toks marks.now) ≡ bounded 64 (want_name d (λ n. more_names d (ns ++ n ∷ []) k)) (toks rest.now)) }
     ensures shorter { IfSome result (λ rest. length rest.now < length marks.now) }
 {
     let (_, rest) = behind(marks, Symbol::Comma)?;

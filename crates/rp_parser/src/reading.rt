@@ -3,6 +3,7 @@
 ghost use Rattle.std.specs.Prelude.{◌≡◌, ◌≤◌, ◌++◌, IfOk, List as Items, length};
 ghost use Rattle.std.specs.List.{AllByRecursion};
 ghost use Rattle.rp_grammar.specs.Bytes.{value, greatest};
+ghost use Rattle.rp_grammar.specs.Pieces.{Shape};
 ghost use Rattle.rp_grammar.specs.Toks.{slice, IsTerminal, ToksOf};
 ghost use Rattle.rp_parser.specs.Marks.{terminal_of, toks, IsReadable};
 
@@ -27,6 +28,36 @@ fn number_value(digits: &[u8]) -> u64
     }
 }
 
+/// A reserved word.
+fn word_kind<'a>(bytes: &[u8]) -> Kind<'a>
+    requires { Shape TokenKind.Word bytes.now }
+    ensures { IsTerminal bytes.now TokenKind.Word (terminal_of result) }
+{
+    match word_of(bytes) {
+        Some(word) => Kind::Word(word),
+        None => unreachable!(),
+    }
+}
+
+/// A symbol.
+fn symbol_kind<'a>(bytes: &[u8]) -> Kind<'a>
+    requires { Shape TokenKind.Symbol bytes.now }
+    ensures { IsTerminal bytes.now TokenKind.Symbol (terminal_of result) }
+{
+    match symbol_of(bytes) {
+        Some(symbol) => Kind::Symbol(symbol),
+        None => unreachable!(),
+    }
+}
+
+/// A string, without its quotes.
+fn string_kind<'a>(bytes: &'a [u8]) -> Kind<'a>
+    requires { Shape TokenKind.Str bytes.now }
+    ensures { IsTerminal bytes.now TokenKind.Str (terminal_of result) }
+{
+    Kind::Str(&bytes[1..bytes.len() - 1])
+}
+
 /// What a token is.
 fn kind_of<'a>(text: &'a [u8], token: Token) -> Kind<'a>
     requires { IsReadable text.now token }
@@ -35,16 +66,10 @@ fn kind_of<'a>(text: &'a [u8], token: Token) -> Kind<'a>
     let bytes = &text[token.span.from as usize..token.span.to as usize];
     match token.kind {
         TokenKind::Name => Kind::Name(bytes),
-        TokenKind::Word => match word_of(bytes) {
-            Some(word) => Kind::Word(word),
-            None => unreachable!(),
-        },
+        TokenKind::Word => word_kind(bytes),
         TokenKind::Int => Kind::Int(number_value(bytes)),
-        TokenKind::Str => Kind::Str(&bytes[1..bytes.len() - 1]),
-        TokenKind::Symbol => match symbol_of(bytes) {
-            Some(symbol) => Kind::Symbol(symbol),
-            None => unreachable!(),
-        },
+        TokenKind::Str => string_kind(bytes),
+        TokenKind::Symbol => symbol_kind(bytes),
         TokenKind::End => Kind::End,
     }
 }

@@ -31,8 +31,8 @@ pub(crate) fn and_sign(marks: Marks, depth: u32) -> Option<Marks>
     ensures shorter { IfSome result (λ rest. length rest.now < length marks.now) }
     ensures reads { (d : ℕ) → d ≡ depth → (e : Part ExprTree) (es : Items (Part ExprTree)) (k : Part ExprTree → State)
         → MatchOption result
-            (bounded 64 (more_and d e es k) (toks marks.now) ≡ bounded 64 (k (and_part e es)) (toks marks.now))
-            (λ rest. bounded 64 (more_and d e es k) (toks marks.now) ≡ bounded 64 (want_operand d (λ f. more_and d e (es ++ f ∷ []) k)) (toks rest.now)) }
+        (bounded 64 (more_and d e es k) (toks marks.now) ≡ bounded 64 (k (and_part e es)) (toks marks.now))
+        (λ rest. bounded 64 (more_and d e es k) (toks marks.now) ≡ bounded 64 (want_operand d (λ f. more_and d e (es ++ f ∷ []) k)) (toks rest.now)) }
 {
     let (_, rest) = behind(marks, Symbol::And)?;
     Some(rest)
@@ -45,8 +45,8 @@ pub(crate) fn or_sign(marks: Marks, depth: u32) -> Option<Marks>
     ensures shorter { IfSome result (λ rest. length rest.now < length marks.now) }
     ensures reads { (d : ℕ) → d ≡ depth → (e : Part ExprTree) (es : Items (Part ExprTree)) (k : Part ExprTree → State)
         → MatchOption result
-            (bounded 64 (more_or d e es k) (toks marks.now) ≡ bounded 64 (k (or_part e es)) (toks marks.now))
-            (λ rest. bounded 64 (more_or d e es k) (toks marks.now) ≡ bounded 64 (want_andx d (λ f. more_or d e (es ++ f ∷ []) k)) (toks rest.now)) }
+        (bounded 64 (more_or d e es k) (toks marks.now) ≡ bounded 64 (k (or_part e es)) (toks marks.now))
+        (λ rest. bounded 64 (more_or d e es k) (toks marks.now) ≡ bounded 64 (want_andx d (λ f. more_or d e (es ++ f ∷ []) k)) (toks rest.now)) }
 {
     let (_, rest) = behind(marks, Symbol::Or)?;
     Some(rest)
@@ -59,8 +59,8 @@ pub(crate) fn implies_sign(marks: Marks, depth: u32) -> Option<Marks>
     ensures shorter { IfSome result (λ rest. length rest.now < length marks.now) }
     ensures reads { (d : ℕ) → d ≡ depth → (a : Part ExprTree) (k : Part ExprTree → State)
         → MatchOption result
-            (bounded 64 (more_implies d a k) (toks marks.now) ≡ bounded 64 (k a) (toks marks.now))
-            (λ rest. bounded 64 (more_implies d a k) (toks marks.now) ≡ bounded 64 (want_expr (suc d) (λ b. k (between ExprForm.implies a b))) (toks rest.now)) }
+        (bounded 64 (more_implies d a k) (toks marks.now) ≡ bounded 64 (k a) (toks marks.now))
+        (λ rest. bounded 64 (more_implies d a k) (toks marks.now) ≡ bounded 64 (want_expr (suc d) (λ b. k (between ExprForm.implies a b))) (toks rest.now)) }
 {
     let (_, rest) = behind(marks, Symbol::Implies)?;
     Some(rest)
@@ -77,8 +77,8 @@ fn sum_symbol(marks: Marks) -> Option<(SumSign, Marks)>
     ensures shorter { IfSome result (λ x. length x.1.now < length marks.now) }
     ensures reads { (d : ℕ) → d ≤ 64 → (a : Part ExprTree) (k : Part ExprTree → State)
         → MatchOption result
-            (bounded 64 (more_sum d a k) (toks marks.now) ≡ bounded 64 (k a) (toks marks.now))
-            (λ x. bounded 64 (more_sum d a k) (toks marks.now) ≡ bounded 64 (want_prim (suc d) (λ b. more_sum (suc d) (between (sum_form x.0) a b) k)) (toks x.1.now)) }
+        (bounded 64 (more_sum d a k) (toks marks.now) ≡ bounded 64 (k a) (toks marks.now))
+        (λ x. bounded 64 (more_sum d a k) (toks marks.now) ≡ bounded 64 (want_prim (suc d) (λ b. more_sum (suc d) (between (sum_form x.0) a b) k)) (toks x.1.now)) }
 {
     let (first, rest) = marks.split_first()?;
     match first.kind {
@@ -94,8 +94,8 @@ pub(crate) fn sum_sign(marks: Marks, depth: u32) -> Option<(SumSign, Marks)>
     ensures shorter { IfSome result (λ x. length x.1.now < length marks.now) }
     ensures reads { (d : ℕ) → d ≡ depth → (a : Part ExprTree) (k : Part ExprTree → State)
         → MatchOption result
-            (bounded 64 (more_sum d a k) (toks marks.now) ≡ bounded 64 (k a) (toks marks.now))
-            (λ x. bounded 64 (more_sum d a k) (toks marks.now) ≡ bounded 64 (want_prim (suc d) (λ b. more_sum (suc d) (between (sum_form x.0) a b) k)) (toks x.1.now)) }
+        (bounded 64 (more_sum d a k) (toks marks.now) ≡ bounded 64 (k a) (toks marks.now))
+        (λ x. bounded 64 (more_sum d a k) (toks marks.now) ≡ bounded 64 (want_prim (suc d) (λ b. more_sum (suc d) (between (sum_form x.0) a b) k)) (toks x.1.now)) }
 {
     sum_symbol(marks)
 }
@@ -120,8 +120,8 @@ pub(crate) fn compare_sign(marks: Marks, depth: u32) -> Option<(CompareOp, Marks
     ensures shorter { IfSome result (λ x. length x.1.now < length marks.now) }
     ensures reads { (d : ℕ) → d ≡ depth → (a : Part ExprTree) (k : Part ExprTree → State)
         → MatchOption result
-            (bounded 64 (more_cmp d a k) (toks marks.now) ≡ bounded 64 (k a) (toks marks.now))
-            (λ x. bounded 64 (more_cmp d a k) (toks marks.now) ≡ bounded 64 (want_sum d (λ b. k (between (ExprForm.compare x.0) a b))) (toks x.1.now)) }
+        (bounded 64 (more_cmp d a k) (toks marks.now) ≡ bounded 64 (k a) (toks marks.now))
+        (λ x. bounded 64 (more_cmp d a k) (toks marks.now) ≡ bounded 64 (want_sum d (λ b. k (between (ExprForm.compare x.0) a b))) (toks x.1.now)) }
 {
     let (first, rest) = marks.split_first()?;
     let Kind::Symbol(symbol) = first.kind else {
@@ -137,12 +137,12 @@ pub(crate) fn expr_comma(marks: Marks, depth: u32) -> Option<Marks>
     ensures shorter { IfSome result (λ rest. length rest.now < length marks.now) }
     ensures exprs { (d : ℕ) → d ≡ depth → (es : Items ExprTree) (k : Items ExprTree → State)
         → MatchOption result
-            (bounded 64 (more_exprs d es k) (toks marks.now) ≡ bounded 64 (k es) (toks marks.now))
-            (λ rest. bounded 64 (more_exprs d es k) (toks marks.now) ≡ bounded 64 (want_expr d (λ e. more_exprs d (es ++ tree_of e ∷ []) k)) (toks rest.now)) }
+        (bounded 64 (more_exprs d es k) (toks marks.now) ≡ bounded 64 (k es) (toks marks.now))
+        (λ rest. bounded 64 (more_exprs d es k) (toks marks.now) ≡ bounded 64 (want_expr d (λ e. more_exprs d (es ++ tree_of e ∷ []) k)) (toks rest.now)) }
     ensures arms { (d : ℕ) → d ≡ depth → (as_ : Items ExprArmTree) (k : Items ExprArmTree → State)
         → MatchOption result
-            (bounded 64 (more_expr_arms d as_ k) (toks marks.now) ≡ bounded 64 (k as_) (toks marks.now))
-            (λ rest. bounded 64 (more_expr_arms d as_ k) (toks marks.now) ≡ bounded 64 (want_expr_arm d (λ a. more_expr_arms d (as_ ++ a ∷ []) k)) (toks rest.now)) }
+        (bounded 64 (more_expr_arms d as_ k) (toks marks.now) ≡ bounded 64 (k as_) (toks marks.now))
+        (λ rest. bounded 64 (more_expr_arms d as_ k) (toks marks.now) ≡ bounded 64 (want_expr_arm d (λ a. more_expr_arms d (as_ ++ a ∷ []) k)) (toks rest.now)) }
 {
     let (_, rest) = behind(marks, Symbol::Comma)?;
     Some(rest)
@@ -201,8 +201,8 @@ pub(crate) fn args_sign(marks: Marks, depth: u32) -> Option<Marks>
     ensures shorter { IfSome result (λ rest. length rest.now < length marks.now) }
     ensures reads { (d : ℕ) → d ≡ depth → (n : IdentTree) (xs : Items StepTree) (v : SpanValue) (k : Part AccessTree → State)
         → MatchOption result
-            (bounded 64 (in_access d n xs v k) (toks marks.now) ≡ bounded 64 (k (not_called n xs v)) (toks marks.now))
-            (λ rest. bounded 64 (in_access d n xs v k) (toks marks.now) ≡ bounded 64 (in_args d n xs v k) (toks rest.now)) }
+        (bounded 64 (in_access d n xs v k) (toks marks.now) ≡ bounded 64 (k (not_called n xs v)) (toks marks.now))
+        (λ rest. bounded 64 (in_access d n xs v k) (toks marks.now) ≡ bounded 64 (in_args d n xs v k) (toks rest.now)) }
 {
     let (_, rest) = behind(marks, Symbol::OpenParen)?;
     Some(rest)

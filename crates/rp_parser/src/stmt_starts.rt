@@ -64,8 +64,8 @@ pub(crate) fn stmt_sign(marks: Marks) -> Option<(StmtStart, Span, Marks)>
     ensures shorter { IfSome result (λ x. length marks.now ≡ suc (length x.2.now)) }
     ensures reads { (d : ℕ) (xs : Items StmtTree) (k : Items StmtTree → State)
         → MatchOption result
-            (bounded 64 (in_stmts d xs k) (toks marks.now) ≡ bounded 64 (k xs) (toks marks.now))
-            (λ x. Moves d (in_stmts d xs k) (toks marks.now) (stmt_next d (λ y. in_stmts d (xs ++ y ∷ []) k) x.1 x.0) (toks x.2.now)) }
+        (bounded 64 (in_stmts d xs k) (toks marks.now) ≡ bounded 64 (k xs) (toks marks.now))
+        (λ x. Moves d (in_stmts d xs k) (toks marks.now) (stmt_next d (λ y. in_stmts d (xs ++ y ∷ []) k) x.1 x.0) (toks x.2.now)) }
 {
     let (first, rest) = marks.split_first()?;
     let start = stmt_start(first.kind)?;
@@ -77,8 +77,8 @@ pub(crate) fn arm_sign(marks: Marks) -> Option<(&[u8], Span, Marks)>
     ensures shorter { IfSome result (λ x. length marks.now ≡ suc (length x.2.now)) }
     ensures reads { (d : ℕ) (as_ : Items BlockArmTree) (k : Items BlockArmTree → State)
         → MatchOption result
-            (bounded 64 (in_block_arms d as_ k) (toks marks.now) ≡ bounded 64 (k as_) (toks marks.now))
-            (λ x. Moves d (in_block_arms d as_ k) (toks marks.now) (in_arm d (ident x.0.now x.1) (λ a. in_block_arms d (as_ ++ a ∷ []) k)) (toks x.2.now)) }
+        (bounded 64 (in_block_arms d as_ k) (toks marks.now) ≡ bounded 64 (k as_) (toks marks.now))
+        (λ x. Moves d (in_block_arms d as_ k) (toks marks.now) (in_arm d (ident x.0.now x.1) (λ a. in_block_arms d (as_ ++ a ∷ []) k)) (toks x.2.now)) }
 {
     let (first, rest) = marks.split_first()?;
     let con = constructor(first.kind)?;
@@ -91,8 +91,8 @@ pub(crate) fn else_sign(marks: Marks, depth: u32) -> Option<Marks>
     ensures shorter { IfSome result (λ rest. length rest.now < length marks.now) }
     ensures reads { (d : ℕ) → d ≡ depth → (v : SpanValue) (e : ExprTree) (b : BlockTree) (k : StmtTree → State)
         → MatchOption result
-            (bounded 64 (more_if d v e b k) (toks marks.now) ≡ bounded 64 (k (alone v e b)) (toks marks.now))
-            (λ rest. bounded 64 (more_if d v e b k) (toks marks.now) ≡ bounded 64 (want_else d v e b k) (toks rest.now)) }
+        (bounded 64 (more_if d v e b k) (toks marks.now) ≡ bounded 64 (k (alone v e b)) (toks marks.now))
+        (λ rest. bounded 64 (more_if d v e b k) (toks marks.now) ≡ bounded 64 (want_else d v e b k) (toks rest.now)) }
 {
     let (_, rest) = word_behind(marks, Word::Else)?;
     Some(rest)

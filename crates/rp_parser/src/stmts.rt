@@ -45,11 +45,7 @@ fn span_of_stmt(stmt: &StmtNode) -> Span
 }
 
 #[cycle(stmts)]
-pub(crate) fn read_block(
-    alloc: Global,
-    marks: Marks,
-    depth: u32,
-) -> Result<(Block, Marks), Fault>
+pub(crate) fn read_block(alloc: Global, marks: Marks, depth: u32) -> Result<(Block, Marks), Fault>
     requires { depth ≤ 64 }
     ensures shorter { IfOk result (λ x. length x.1.now < length marks.now) }
     ensures reads { (d : ℕ) → d ≡ depth → (k : BlockTree → State)
@@ -64,11 +60,7 @@ pub(crate) fn read_block(
 
 /// All statements that are next.
 #[cycle(stmts)]
-fn read_stmts(
-    alloc: Global,
-    marks: Marks,
-    depth: u32,
-) -> Result<(List<StmtNode>, Marks), Fault>
+fn read_stmts(alloc: Global, marks: Marks, depth: u32) -> Result<(List<StmtNode>, Marks), Fault>
     requires { depth ≤ 65 }
     ensures no_longer { IfOk result (λ x. length x.1.now ≤ length marks.now) }
     ensures reads { (d : ℕ) → d ≡ depth → (k : Items StmtTree → State)
@@ -149,12 +141,7 @@ fn read_stmt<'a>(
 
 /// What follows the word `if` at `start`.
 #[cycle(stmts)]
-fn read_if(
-    alloc: Global,
-    start: Span,
-    marks: Marks,
-    depth: u32,
-) -> Result<(StmtNode, Marks), Fault>
+fn read_if(alloc: Global, start: Span, marks: Marks, depth: u32) -> Result<(StmtNode, Marks), Fault>
     requires { depth ≤ 64 }
     ensures shorter { IfOk result (λ x. length x.1.now < length marks.now) }
     ensures reads { (d : ℕ) → d ≡ depth → (k : StmtTree → State)
@@ -173,11 +160,7 @@ fn read_if(
 
 /// What follows the word `else`; with its span.
 #[cycle(stmts)]
-fn read_else(
-    alloc: Global,
-    marks: Marks,
-    depth: u32,
-) -> Result<(ElseNode, Span, Marks), Fault>
+fn read_else(alloc: Global, marks: Marks, depth: u32) -> Result<(ElseNode, Span, Marks), Fault>
     requires { depth ≤ 64 }
     ensures shorter { IfOk result (λ x. length x.2.now < length marks.now) }
     ensures reads { (d : ℕ) → d ≡ depth → (v : SpanValue) (e : ExprTree) (b : BlockTree) (k : StmtTree → State)
@@ -221,11 +204,7 @@ fn read_match(
 
 /// All arms that are next.
 #[cycle(stmts)]
-fn read_arms(
-    alloc: Global,
-    marks: Marks,
-    depth: u32,
-) -> Result<(List<BlockArm>, Marks), Fault>
+fn read_arms(alloc: Global, marks: Marks, depth: u32) -> Result<(List<BlockArm>, Marks), Fault>
     requires { depth ≤ 65 }
     ensures no_longer { IfOk result (λ x. length x.1.now ≤ length marks.now) }
     ensures reads { (d : ℕ) → d ≡ depth → (k : Items BlockArmTree → State)
@@ -271,12 +250,7 @@ fn read_next_arm<'a>(
 
 /// An arm, behind the constructor of its pattern.
 #[cycle(stmts)]
-fn read_arm(
-    alloc: Global,
-    con: Ident,
-    marks: Marks,
-    depth: u32,
-) -> Result<(BlockArm, Marks), Fault>
+fn read_arm(alloc: Global, con: Ident, marks: Marks, depth: u32) -> Result<(BlockArm, Marks), Fault>
     requires { depth ≤ 64 }
     ensures shorter { IfOk result (λ x. length x.1.now < length marks.now) }
     ensures reads { (d : ℕ) → d ≡ depth → (k : BlockArmTree → State)

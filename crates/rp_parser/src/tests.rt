@@ -1,8 +1,7 @@
 use super::{ParseErr, parse};
-use rp_ast::Ast;
 use rp_lexer::{LexErr, lex};
-use rp_value::Memory;
 use std::alloc::{AllocError, Global};
+use std::process::Abort;
 use std::test::Fail;
 
 /// Why a test's text was not read.
@@ -24,200 +23,287 @@ impl From<AllocError> for Trouble {
     }
 }
 
-// Texts cut in two: what stands before the first token that no program goes on with, and the rest.
-const PLACES: [(&[u8], &[u8]); 105] = [
-    // Declarations.
-    (b"", b"x"),
-    (b"", b"; proc p() { }"),
-    (b"idtype ", b"; type B;"),
-    (b"idtype A ", b"= B;"),
-    (b"type ", b"Bool;"),
-    (b"type A", b""),
-    (b"type A; ", b"call;"),
-    (b"datatype ", b"= A;"),
-    (b"datatype D ", b": A;"),
-    (b"datatype D = ", b";"),
-    (b"datatype D = A ", b"B;"),
-    (b"datatype D = A(", b");"),
-    (b"datatype D = A(x ", b"Int);"),
-    (b"datatype D = A(x: Int", b";"),
-    (b"datatype D = A(x: Int, ", b");"),
-    (b"datatype D = A | ", b";"),
-    (b"crdt c ", b"= Counter;"),
-    (b"crdt c: ", b"Int;"),
-    (b"crdt c: SetAw", b"(Int);"),
-    (b"crdt c: SetRw[", b"];"),
-    (b"crdt c: Reg[Int", b";"),
-    (b"crdt c: MvReg[Int", b", Int];"),
-    (b"crdt c: MapUw[Int", b"];"),
-    (b"crdt c: MapDw[Int, ", b"Int];"),
-    (b"crdt c: MapDw[Int, Counter", b";"),
-    (b"crdt c: Counter", b"[Int];"),
-    (b"crdt c: {", b"};"),
-    (b"crdt c: { a ", b"= Counter };"),
-    (b"crdt c: { a: Counter", b"; };"),
-    (b"crdt c: { a: Counter, ", b"};"),
-    (b"query q", b": Int = 1;"),
-    (b"query q() ", b"= 1;"),
-    (b"query q(): Int", b";"),
-    (b"query q(): Int = ", b";"),
-    (b"query q(x: Int, ", b"): Int = 1;"),
-    (b"query q(): Maybe ", b"= 1;"),
-    (b"query q(): Maybe[Int ", b"= 1;"),
-    (b"query q(): Maybe[", b"]= 1;"),
-    (b"invariant ", b";"),
-    (b"invariant a: ", b";"),
-    (b"invariant a: b", b": c;"),
-    (b"invariant a", b"}"),
-    (b"proc p ", b"{ }"),
-    (b"proc p(x", b") { }"),
-    (b"proc p(): ", b"{ }"),
-    (b"proc p()", b";"),
-    (b"proc p() { }", b"}"),
-    // Expressions.
-    (b"invariant a ==> ", b";"),
-    (b"invariant a || ", b";"),
-    (b"invariant a && ", b"|| b;"),
-    (b"invariant !", b";"),
-    (b"invariant forall ", b":: a;"),
-    (b"invariant forall x", b":: a;"),
-    (b"invariant forall x: ", b":: a;"),
-    (b"invariant forall x: Int ", b"a;"),
-    (b"invariant forall x: Int, ", b":: a;"),
-    (b"invariant exists x: Int, y", b":: a;"),
-    (b"invariant exists x: Int :: ", b";"),
-    (b"invariant a == ", b"!b;"),
-    (b"invariant a == b ", b"!= c;"),
-    (b"invariant a < b ", b"< c;"),
-    (b"invariant a + ", b";"),
-    (b"invariant -", b"a;"),
-    (b"invariant 1 ", b"2;"),
-    (b"invariant \"a\" ", b"\"b\";"),
-    (b"invariant some ", b"a;"),
-    (b"invariant some(", b");"),
-    (b"invariant visible", b";"),
-    (b"invariant before(a, ", b");"),
-    (b"invariant op(", b");"),
-    (b"invariant tx", b"(a);"),
-    (b"invariant ", b"call;"),
-    (b"invariant match ", b"a { }"),
-    (b"invariant match (a ", b"{ };"),
-    (b"invariant match (a) ", b";"),
-    (b"invariant match (a) { ", b"};"),
-    (b"invariant match (a) { none", b": b };"),
-    (b"invariant match (a) { some(", b") => b };"),
-    (b"invariant match (a) { some(x ", b"=> b };"),
-    (b"invariant match (a) { some(x, ", b") => b };"),
-    (b"invariant match (a) { none => ", b"};"),
-    (b"invariant match (a) { none => b ", b"some => c };"),
-    (b"invariant a.", b"result;"),
-    (b"invariant a[", b"];"),
-    (b"invariant a[b", b";"),
-    (b"invariant a(b, ", b");"),
-    (b"invariant a(b", b";"),
-    (b"invariant a()", b".b;"),
-    (b"invariant (a", b";"),
-    (b"invariant (", b");"),
-    // Statements.
-    (b"proc p() { var ", b": Int; }"),
-    (b"proc p() { var x", b"; }"),
-    (b"proc p() { var x: Int ", b"x; }"),
-    (b"proc p() { var x: Int = ", b"; }"),
-    (b"proc p() { x = ", b"; }"),
-    (b"proc p() { x = new ", b"; }"),
-    (b"proc p() { x = new T", b"(); }"),
-    (b"proc p() { x.y ", b"= 1; }"),
-    (b"proc p() { if ", b"x { } }"),
-    (b"proc p() { if (x) { } else ", b"x = 1; }"),
-    (b"proc p() { match (x) { none => { }", b", some => { } } }"),
-    (b"proc p() { atomic ", b"x; }"),
-    (b"proc p() { assert ", b"; }"),
-    (b"proc p() { return", b"}"),
-    (b"proc p() { ", b"requires x; }"),
-];
+// Texts, one a line, each with a mark before the first token that no program goes on with.
 
-// One kind of construct, nested: what stands before, what each level opens with, how many levels a program
-// may have, how one level more begins up to its first token that is nested too deep, what stands inside, what
-// each level closes with, and what stands behind.
-const NESTINGS: [(&[u8], &[u8], usize, &[u8], &[u8], &[u8], &[u8]); 21] = [
-    (b"invariant ", b"(", 64, b"(", b"true", b")", b";"),
-    (b"invariant ", b"!", 64, b"!", b"true", b"", b";"),
-    (b"invariant ", b"a ==> ", 64, b"a ==> ", b"a", b"", b";"),
-    (b"invariant ", b"forall x: Int :: ", 64, b"forall ", b"a", b"", b";"),
-    (b"invariant ", b"exists x: Int :: ", 64, b"exists ", b"a", b"", b";"),
-    (b"invariant forall x: Int", b", x: Int", 63, b", x", b":: a", b"", b";"),
-    (b"invariant 1", b" + 1", 64, b" + ", b"", b"", b";"),
-    (b"invariant 1", b" - 1", 64, b" - ", b"", b"", b";"),
-    (b"invariant ", b"some(", 64, b"some(", b"a", b")", b";"),
-    (b"invariant ", b"op(", 64, b"op(", b"a", b")", b";"),
-    (b"invariant ", b"a[", 64, b"a[", b"a", b"]", b";"),
-    (b"invariant ", b"a(", 64, b"a(", b"a", b")", b";"),
-    (b"invariant ", b"match (a) { none => ", 64, b"match (", b"a", b"}", b";"),
-    (b"invariant ", b"(", 62, b"(match (a) { some(", b"match (a) { some(x) => a }", b")", b";"),
-    (b"query q(): ", b"Maybe[", 64, b"Maybe[", b"Int", b"]", b" = 1;"),
-    (b"crdt c: ", b"MapUw[Int, ", 64, b"MapUw[", b"Counter", b"]", b";"),
-    (b"crdt c: ", b"{ a: ", 64, b"{ ", b"Counter", b"}", b";"),
-    (b"proc p() { ", b"atomic { ", 63, b"atomic { ", b"return;", b"}", b"}"),
-    (b"proc p() { ", b"if (a) { ", 63, b"if (", b"return;", b"}", b"}"),
-    (b"proc p() { if (a) { }", b" else if (a) { }", 62, b" else if (", b"", b"", b" }"),
-    (b"proc p() { ", b"match (a) { none => { ", 31, b"match (a) { none => { ", b"return;", b"} }", b"}"),
-];
+const DECLARATIONS: &str = "@x
+@; proc p() { }
+idtype @; type B;
+idtype A @= B;
+type @Bool;
+type A@
+type A; @call;
+datatype @= A;
+datatype D @: A;
+datatype D = @;
+datatype D = A @B;
+datatype D = A(@);
+datatype D = A(x @Int);
+datatype D = A(x: Int@;
+datatype D = A(x: Int, @);
+datatype D = A | @;
+crdt c @= Counter;
+crdt c: @Int;
+crdt c: SetAw@(Int);
+crdt c: SetRw[@];
+crdt c: Reg[Int@;
+crdt c: MvReg[Int@, Int];
+crdt c: MapUw[Int@];
+crdt c: MapDw[Int, @Int];
+crdt c: MapDw[Int, Counter@;
+crdt c: Counter@[Int];
+crdt c: {@};
+crdt c: { a @= Counter };
+crdt c: { a: Counter@; };
+crdt c: { a: Counter, @};
+query q@: Int = 1;
+query q() @= 1;
+query q(): Int@;
+query q(): Int = @;
+query q(x: Int, @): Int = 1;
+query q(): Maybe @= 1;
+query q(): Maybe[Int @= 1;
+query q(): Maybe[@]= 1;
+invariant @;
+invariant a: @;
+invariant a: b@: c;
+invariant a@}
+proc p @{ }
+proc p(x@) { }
+proc p(): @{ }
+proc p()@;
+proc p() { }@}";
 
-fn parsed(alloc: Global, text: &[u8]) -> Result<Result<Ast, ParseErr>, Trouble> {
+const EXPRESSIONS: &str = "invariant a ==> @;
+invariant a || @;
+invariant a && @|| b;
+invariant !@;
+invariant forall @:: a;
+invariant forall x@:: a;
+invariant forall x: @:: a;
+invariant forall x: Int @a;
+invariant forall x: Int, @:: a;
+invariant exists x: Int, y@:: a;
+invariant exists x: Int :: @;
+invariant a == @!b;
+invariant a == b @!= c;
+invariant a < b @< c;
+invariant a + @;
+invariant -@a;
+invariant 1 @2;
+invariant \"a\" @\"b\";
+invariant some @a;
+invariant some(@);
+invariant visible@;
+invariant before(a, @);
+invariant op(@);
+invariant tx@(a);
+invariant @call;
+invariant match @a { }
+invariant match (a @{ };
+invariant match (a) @;
+invariant match (a) { @};
+invariant match (a) { none@: b };
+invariant match (a) { some(@) => b };
+invariant match (a) { some(x @=> b };
+invariant match (a) { some(x, @) => b };
+invariant match (a) { none => @};
+invariant match (a) { none => b @some => c };
+invariant a.@result;
+invariant a[@];
+invariant a[b@;
+invariant a(b, @);
+invariant a(b@;
+invariant a()@.b;
+invariant (a@;
+invariant (@);";
+
+const STATEMENTS: &str = "proc p() { var @: Int; }
+proc p() { var x@; }
+proc p() { var x: Int @x; }
+proc p() { var x: Int = @; }
+proc p() { x = @; }
+proc p() { x = new @; }
+proc p() { x = new T@(); }
+proc p() { x.y @= 1; }
+proc p() { if @x { } }
+proc p() { if (x) { } else @x = 1; }
+proc p() { match (x) { none => { }@, some => { } } }
+proc p() { atomic @x; }
+proc p() { assert @; }
+proc p() { return@}
+proc p() { @requires x; }";
+
+// One kind of construct a line, nested: what stands before, what each level opens with, how one level more
+// than a program may have begins, up to its first token that is nested too deep, what stands inside, what each
+// level closes with, and what stands behind. The number is how many levels a program may have.
+
+const NESTED_64: &str = "invariant @(@(@true@)@;
+invariant @!@!@true@@;
+invariant @a ==> @a ==> @a@@;
+invariant @forall x: Int :: @forall @a@@;
+invariant @exists x: Int :: @exists @a@@;
+invariant 1@ + 1@ + @@@;
+invariant 1@ - 1@ - @@@;
+invariant @some(@some(@a@)@;
+invariant @op(@op(@a@)@;
+invariant @a[@a[@a@]@;
+invariant @a(@a(@a@)@;
+invariant @match (a) { none => @match (@a@}@;
+query q(): @Maybe[@Maybe[@Int@]@ = 1;
+crdt c: @MapUw[Int, @MapUw[@Counter@]@;
+crdt c: @{ a: @{ @Counter@}@;";
+
+const NESTED_63: &str = "invariant forall x: Int@, x: Int@, x@:: a@@;
+proc p() { @atomic { @atomic { @return;@}@}
+proc p() { @if (a) { @if (@return;@}@}";
+
+const NESTED_62: &str = "invariant @(@(match (a) { some(@match (a) { some(x) => a }@)@;
+proc p() { if (a) { }@ else if (a) { }@ else if (@@@ }";
+
+const NESTED_31: &str = "proc p() { @match (a) { none => { @match (a) { none => { @return;@} }@}";
+
+/// Why a text is refused, if it is.
+fn refusal(rt: &impl Abort, alloc: Global, text: &[u8]) -> Result<Option<ParseErr>, Trouble> {
+    assert!(rt; text.len() <= 262_144);
     let tokens = lex(alloc, text)?;
-    Ok(parse(alloc, text, &tokens))
+    Ok(parse(alloc, text, &tokens).err())
+}
+
+/// How many declarations a text has, if it is a program.
+fn declarations_in(rt: &impl Abort, alloc: Global, text: &[u8]) -> Result<Option<u32>, Trouble> {
+    assert!(rt; text.len() <= 262_144);
+    let tokens = lex(alloc, text)?;
+    Ok(match parse(alloc, text, &tokens) {
+        Ok(ast) => Some(ast.decls.count()),
+        Err(_) => None,
+    })
 }
 
 /// How many tokens stand in a text, its end aside.
-fn tokens_of(alloc: Global, text: &[u8]) -> Result<u32, Trouble> {
+fn tokens_of(rt: &impl Abort, alloc: Global, text: &[u8]) -> Result<u32, Trouble> {
+    assert!(rt; text.len() <= 262_144);
     let tokens = lex(alloc, text)?;
     Ok(tokens.count() - 1)
 }
 
+/// Whether the first bad token of a text stands behind its mark.
+fn is_refused_at_mark(rt: &impl Abort, alloc: Global, line: &str) -> Result<bool, Trouble> {
+    let Some((before, after)) = line.split_once('@') else {
+        return Ok(false);
+    };
+    let mut text = before.as_bytes().to_vec(alloc)?;
+    text.extend_from_slice(after.as_bytes())?;
+    let token = tokens_of(rt, alloc, before.as_bytes())?;
+    Ok(refusal(rt, alloc, text.as_slice())? == Some(ParseErr::Syntax { token }))
+}
+
 #[test]
-fn the_first_bad_token_is_named(rt: HostRuntime) -> Result<(), Fail> {
-    let alloc = rt.alloc();
-    for (before, after) in PLACES {
-        let mut text = Vec::from_slice(alloc, before)?;
-        text.extend_from_slice(after)?;
-        let token = tokens_of(alloc, before)?;
-        match parsed(alloc, text.as_slice())? {
-            Err(error) => assert_eq!(rt; error, ParseErr::Syntax { token }),
-            Ok(_) => assert!(rt; false),
-        }
+fn the_first_bad_token_of_a_declaration_is_named(rt: HostRuntime) -> Result<(), Fail> {
+    for line in DECLARATIONS.split('\n') {
+        assert!(rt; is_refused_at_mark(&rt, rt.alloc(), line)?, "in {line}");
     }
     Ok(())
 }
 
-/// Some bytes, so many times.
-fn add_repeated(text: &mut Vec<u8>, bytes: &[u8], times: usize) -> Result<(), AllocError> {
-    for _ in 0..times {
-        text.extend_from_slice(bytes)?;
+#[test]
+fn the_first_bad_token_of_an_expression_is_named(rt: HostRuntime) -> Result<(), Fail> {
+    for line in EXPRESSIONS.split('\n') {
+        assert!(rt; is_refused_at_mark(&rt, rt.alloc(), line)?, "in {line}");
     }
     Ok(())
+}
+
+#[test]
+fn the_first_bad_token_of_a_statement_is_named(rt: HostRuntime) -> Result<(), Fail> {
+    for line in STATEMENTS.split('\n') {
+        assert!(rt; is_refused_at_mark(&rt, rt.alloc(), line)?, "in {line}");
+    }
+    Ok(())
+}
+
+/// A kind of construct that nests.
+#[derive(Clone, Copy)]
+struct Nesting<'a> {
+    head: &'a str,
+    open: &'a str,
+    lead: &'a str,
+    core: &'a str,
+    close: &'a str,
+    tail: &'a str,
+}
+
+fn nesting_of(line: &str) -> Option<Nesting> {
+    let (head, rest) = line.split_once('@')?;
+    let (open, rest) = rest.split_once('@')?;
+    let (lead, rest) = rest.split_once('@')?;
+    let (core, rest) = rest.split_once('@')?;
+    let (close, tail) = rest.split_once('@')?;
+    Some(Nesting {
+        head,
+        open,
+        lead,
+        core,
+        close,
+        tail,
+    })
+}
+
+/// A text, and behind it another one so many times.
+fn repeated(alloc: Global, head: &str, part: &str, times: u8) -> Result<Vec<u8>, AllocError> {
+    let mut text = head.as_bytes().to_vec(alloc)?;
+    for _ in 0..times {
+        text.extend_from_slice(part.as_bytes())?;
+    }
+    Ok(text)
+}
+
+/// The construct, nested so many times.
+fn nested(alloc: Global, nesting: Nesting, levels: u8) -> Result<Vec<u8>, AllocError> {
+    let mut text = repeated(alloc, nesting.head, nesting.open, levels)?;
+    let closing = repeated(alloc, nesting.core, nesting.close, levels)?;
+    text.extend_from_slice(closing.as_slice())?;
+    text.extend_from_slice(nesting.tail.as_bytes())?;
+    Ok(text)
+}
+
+/// Whether the construct may be nested so many times.
+fn may_be_nested(
+    rt: &impl Abort,
+    alloc: Global,
+    nesting: Nesting,
+    levels: u8,
+) -> Result<bool, Trouble> {
+    let text = nested(alloc, nesting, levels)?;
+    Ok(refusal(rt, alloc, text.as_slice())?.is_none())
+}
+
+/// Whether one level more than so many is refused, at its first token that is nested too deep.
+fn is_too_deep_beyond(
+    rt: &impl Abort,
+    alloc: Global,
+    nesting: Nesting,
+    most: u8,
+) -> Result<bool, Trouble> {
+    let mut before = repeated(alloc, nesting.head, nesting.open, most)?;
+    before.extend_from_slice(nesting.lead.as_bytes())?;
+    let token = tokens_of(rt, alloc, before.as_slice())?;
+    let text = nested(alloc, nesting, most.saturating_add(1))?;
+    Ok(refusal(rt, alloc, text.as_slice())? == Some(ParseErr::TooDeep { token }))
 }
 
 #[test]
 fn programs_are_nested_64_deep_and_no_deeper(rt: HostRuntime) -> Result<(), Fail> {
     let alloc = rt.alloc();
-    for (head, open, most, lead, core, close, tail) in NESTINGS {
-        for levels in [most, most + 1] {
-            let mut text = Vec::from_slice(alloc, head)?;
-            add_repeated(&mut text, open, levels)?;
-            text.extend_from_slice(core)?;
-            add_repeated(&mut text, close, levels)?;
-            text.extend_from_slice(tail)?;
-            let mut before = Vec::from_slice(alloc, head)?;
-            add_repeated(&mut before, open, most)?;
-            before.extend_from_slice(lead)?;
-            let token = tokens_of(alloc, before.as_slice())?;
-            match parsed(alloc, text.as_slice())? {
-                Ok(_) => assert_eq!(rt; levels, most),
-                Err(error) => {
-                    assert_eq!(rt; levels, most + 1);
-                    assert_eq!(rt; error, ParseErr::TooDeep { token });
-                }
-            }
+    for (lines, most) in [
+        (NESTED_64, 64),
+        (NESTED_63, 63),
+        (NESTED_62, 62),
+        (NESTED_31, 31),
+    ] {
+        for line in lines.split('\n') {
+            let nesting = nesting_of(line).ok_or("a line without its six parts")?;
+            assert!(rt; may_be_nested(&rt, alloc, nesting, most)?, "in {line}");
+            assert!(rt; is_too_deep_beyond(&rt, alloc, nesting, most)?, "in {line}");
         }
     }
     Ok(())
@@ -239,9 +325,6 @@ fn a_program_of_each_construct_is_read(rt: HostRuntime) -> Result<(), Fail> {
             match (x) { some(v) => { return v; } none => { } }
             return;
         }";
-    match parsed(alloc, text)? {
-        Ok(ast) => assert_eq!(rt; ast.decls.len(), 8),
-        Err(_) => assert!(rt; false),
-    }
+    assert_eq!(rt; declarations_in(&rt, alloc, text)?, Some(8));
     Ok(())
 }

@@ -36,11 +36,7 @@ fn plain_type(alloc: Global, span: Span, plain: PlainType) -> Result<TypeNode, M
     })
 }
 
-pub(crate) fn read_type(
-    alloc: Global,
-    marks: Marks,
-    depth: u32,
-) -> Result<(TypeNode, Marks), Fault>
+pub(crate) fn read_type(alloc: Global, marks: Marks, depth: u32) -> Result<(TypeNode, Marks), Fault>
     requires { depth ≤ 65 }
     ensures shallow { IfOk result (λ _. depth ≤ 64) }
     ensures shorter { IfOk result (λ x. length x.1.now < length marks.now) }
@@ -76,11 +72,7 @@ fn read_element(
     Ok((element, join(start, close), end))
 }
 
-pub(crate) fn read_param(
-    alloc: Global,
-    marks: Marks,
-    depth: u32,
-) -> Result<(Param, Marks), Fault>
+pub(crate) fn read_param(alloc: Global, marks: Marks, depth: u32) -> Result<(Param, Marks), Fault>
     requires { depth ≤ 65 }
     ensures shallow { IfOk result (λ _. depth ≤ 64) }
     ensures shorter { IfOk result (λ x. length x.1.now < length marks.now) }
@@ -162,11 +154,7 @@ fn map_type(
 }
 
 #[cycle(crdts)]
-pub(crate) fn read_crdt(
-    alloc: Global,
-    marks: Marks,
-    depth: u32,
-) -> Result<(CrdtNode, Marks), Fault>
+pub(crate) fn read_crdt(alloc: Global, marks: Marks, depth: u32) -> Result<(CrdtNode, Marks), Fault>
     requires { depth ≤ 65 }
     ensures shallow { IfOk result (λ _. depth ≤ 64) }
     ensures shorter { IfOk result (λ x. length x.1.now < length marks.now) }
@@ -199,11 +187,7 @@ pub(crate) fn read_crdt(
 
 /// Named parts with commas between them, one at least.
 #[cycle(crdts)]
-fn read_fields(
-    alloc: Global,
-    marks: Marks,
-    depth: u32,
-) -> Result<(List<FieldNode>, Marks), Fault>
+fn read_fields(alloc: Global, marks: Marks, depth: u32) -> Result<(List<FieldNode>, Marks), Fault>
     requires { depth ≤ 65 }
     ensures shallow { IfOk result (λ _. depth ≤ 64) }
     ensures shorter { IfOk result (λ x. length x.1.now < length marks.now) }
@@ -223,11 +207,7 @@ fn read_fields(
 }
 
 #[cycle(crdts)]
-fn read_field(
-    alloc: Global,
-    marks: Marks,
-    depth: u32,
-) -> Result<(FieldNode, Marks), Fault>
+fn read_field(alloc: Global, marks: Marks, depth: u32) -> Result<(FieldNode, Marks), Fault>
     requires { depth ≤ 65 }
     ensures shallow { IfOk result (λ _. depth ≤ 64) }
     ensures shorter { IfOk result (λ x. length x.1.now < length marks.now) }

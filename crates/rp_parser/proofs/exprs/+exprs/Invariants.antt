@@ -1,10 +1,9 @@
-use Rattle.std.proofs.Common.{◌≡◌, ℕ, suc, false, ◌+◌, ◌*◌, ◌<◌, ◌≤◌, List, [], ◌∷◌, ◌++◌, length, map, refl}
-use Rattle.rp_span.specs.declared.Span.{Span}
+use Rattle.std.proofs.Common.{◌≡◌, ℕ, false, ◌+◌, ◌*◌, ◌<◌, ◌≤◌, List, [], ◌∷◌, ◌++◌, length, map}
 use Rattle.rp_grammar.specs.declared.terminal.Symbol.TheVariants as symbol
 use Rattle.rp_grammar.specs.Trees.{Ident, ExprTree, ExprArmTree, AccessTree}
-use Rattle.rp_grammar.specs.Parts.{Part, part, tree_of, trees_of, extent_of, reach}
+use Rattle.rp_grammar.specs.Parts.{Part, part, trees_of, reach}
 use Rattle.rp_ast.specs.View.{expr_view, expr_arm_view, step_view}
-use Rattle.rp_tokens.specs.MachineStates.{State, want_symbol, want_operand, more_and, more_or, more_sum, more_exprs, more_expr_arms, in_access}
+use Rattle.rp_tokens.specs.MachineStates.{State, want_operand, more_and, more_or, more_sum, more_exprs, more_expr_arms, in_access}
 use Rattle.rp_tokens.specs.MachineExprs.{want_andx, want_sum, want_exprs, want_expr_arms}
 use Rattle.rp_tokens.specs.Machine.{bounded}
 use Rattle.rp_parser.specs.Marks.{toks, next_is}

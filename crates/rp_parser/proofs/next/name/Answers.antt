@@ -1,4 +1,4 @@
-use Rattle.std.proofs.Common.{◌≡◌, refl, ap, arith}
+use Rattle.std.proofs.Common.{ap, arith}
 use Rattle.rp_grammar.specs.Trees.{ident}
 use Rattle.rp_tokens.specs.MachineStates.{want_name, name_step}
 use Rattle.rp_parser.specs.Marks.{terminal_of}

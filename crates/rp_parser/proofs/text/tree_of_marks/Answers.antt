@@ -1,5 +1,5 @@
 use Rattle.rp_ast.specs.View.{decls_view}
-use Rattle.std.proofs.Common.{◌-◌, length, subst}
+use Rattle.std.proofs.Common.{◌-◌, subst}
 use Rattle.rp_grammar.specs.Begins.{IsFirstBad, IsTooDeep}
 use Rattle.rp_tokens.proofs.Places.{found_tree}
 use Rattle.rp_parser.specs.Marks.{toks}
@@ -7,11 +7,11 @@ use Rattle.rp_parser.proofs.Steps.{length_toks}
 use Rattle.rp_parser.proofs.Whole.{bad, too_deep_at, fits}
 use Rattle.rp_parser.proofs.text.tree_of_marks.Goals as goal
 
-pub overflow_sub : goal.overflow_sub
-overflow_sub c = fits _ _ _ (length_toks c.args.marks.now) ((bad (toks c.args.marks.now) c.in-Err-Syntax.field-0 c.in-Err-Syntax.left c.requires.ends c.in-Err-Syntax.field-0-is c.in-Err-Syntax.ensures).0)
+pub overflow_sub-result : goal.overflow_sub-result
+overflow_sub-result c = fits _ _ _ (length_toks c.args.marks.now) ((bad (toks c.args.marks.now) c.in-Err-Syntax.field-0 c.in-Err-Syntax.left c.requires.ends c.in-Err-Syntax.field-0-is c.in-Err-Syntax.ensures).0)
 
-pub overflow_sub-in-Err-TooDeep : goal.overflow_sub-in-Err-TooDeep
-overflow_sub-in-Err-TooDeep c = fits _ _ _ (length_toks c.args.marks.now) ((too_deep_at (toks c.args.marks.now) c.in-Err-TooDeep.field-0 c.in-Err-TooDeep.left c.in-Err-TooDeep.field-0-is c.in-Err-TooDeep.ensures).0)
+pub overflow_sub-result-in-Err-TooDeep : goal.overflow_sub-result-in-Err-TooDeep
+overflow_sub-result-in-Err-TooDeep c = fits _ _ _ (length_toks c.args.marks.now) ((too_deep_at (toks c.args.marks.now) c.in-Err-TooDeep.field-0 c.in-Err-TooDeep.left c.in-Err-TooDeep.field-0-is c.in-Err-TooDeep.ensures).0)
 
 pub returns-in-Ok : goal.returns-in-Ok
 returns-in-Ok c = found_tree 64 (toks c.args.marks.now) (decls_view c.in-Ok.decls) c.in-Ok.ensures
