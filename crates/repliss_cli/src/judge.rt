@@ -74,7 +74,8 @@ fn lines_for(
     program: &Program,
     goals: &[Unproved],
 ) -> Result<List<GoalLine>, Memory>
-    ensures { IfOk result (λ lines. lines ≡ map (line_for text.now (program_view program.now)) goals.now) }
+    ensures { IfOk result (λ lines. lines
+        ≡ map (line_for text.now (program_view program.now)) goals.now) }
 {
     let mut lines = List::new(alloc);
     for goal in goals {
@@ -85,7 +86,8 @@ fn lines_for(
 
 /// The report on a program of the first form.
 fn report_on_program(alloc: Global, text: &Text, program: &Program) -> Result<Report, Memory>
-    requires read { (tree : Items DeclTree) × IsTextWithin 64 text.now tree × IsProgramOf tree (program_view program.now) }
+    requires read { (tree : Items DeclTree) × IsTextWithin 64 text.now tree
+        × IsProgramOf tree (program_view program.now) }
     requires short { length text.now ≤ 262144 }
     ensures { IfOk result (λ report. IsReportOf text.now report) }
 {

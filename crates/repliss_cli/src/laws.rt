@@ -5,6 +5,7 @@ ghost use Rattle.repliss_cli.specs.Answers.{IsReportOf};
 
 /// A text has exactly one report: the causes of two reports never stand together, and one always stands.
 pub fn a_text_has_one_report()
-    ensures one { (content : List ℕ) (r s : Report) → IsReportOf content r → IsReportOf content s → r ≡ s }
+    ensures one { (content : List ℕ) (r s : Report) → IsReportOf content r → IsReportOf content s
+        → r ≡ s }
     ensures some { (content : List ℕ) → (r : Report) × IsReportOf content r }
 {}

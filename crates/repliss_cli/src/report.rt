@@ -149,7 +149,8 @@ fn one(alloc: Global, text: String) -> Result<Vec<Vec<u8>>, Memory>
 
 /// Adds the lines of unproved goals.
 fn add_goals(alloc: Global, lines: &mut Vec<Vec<u8>>, goals: &[GoalLine]) -> Result<(), Memory>
-    ensures { OnOk result (bytes_of lines.new.items ≡ bytes_of lines.old.items ++ flat_map goal_line goals.now) }
+    ensures { OnOk result (bytes_of lines.new.items
+        ≡ bytes_of lines.old.items ++ flat_map goal_line goals.now) }
 {
     for goal in goals {
         lines.push(line_of_goal(alloc, goal)?)?;
@@ -200,7 +201,8 @@ fn line_with_place(alloc: Global, head: &str, at: &Pos) -> Result<String, Memory
 
 /// The line of a fault among the tokens.
 fn lex_line(alloc: Global, fault: LexFault, at: &Pos) -> Result<String, Memory>
-    ensures { IfOk result (λ line. string_bytes line ≡ codes "refused: lex " ++ (fault_name fault ++ place_text at.now)) }
+    ensures { IfOk result (λ line. string_bytes line
+        ≡ codes "refused: lex " ++ (fault_name fault ++ place_text at.now)) }
 {
     let name = fault_name(fault);
     let line = at.line;

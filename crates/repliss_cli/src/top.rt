@@ -38,10 +38,12 @@ fn file_of(words: &[String]) -> Option<&str>
 /// Puts the lines of a report. On `WriteFault` and `NoMemory` a prefix of them was put.
 fn put_report<K: Sink>(alloc: Global, out: &mut K, report: &Report) -> Status
     ensures whole { result ≢ Status.WriteFault → result ≢ Status.NoMemory
-        → (result ≡ status_of report.now) × Puts (K.told out.old) (K.told out.new) (report_text report.now) }
+        → (result ≡ status_of report.now)
+        × Puts (K.told out.old) (K.told out.new) (report_text report.now) }
     ensures prefix { PutsPrefix (K.told out.old) (K.told out.new) (report_text report.now) }
     ensures write_fault { result ≡ Status.WriteFault → Rose (K.faults out.old) (K.faults out.new) }
-    ensures no_room { result ≡ Status.WriteFault → IfSome (K.room out.old) (λ n. n < length (report_text report.now)) }
+    ensures no_room { result ≡ Status.WriteFault
+        → IfSome (K.room out.old) (λ n. n < length (report_text report.now)) }
     ensures no_read_fault { result ≢ Status.ReadFault }
 {
     let Ok(lines) = lines(alloc, report) else {
@@ -64,10 +66,12 @@ enum Stop {
 /// The report that the words ask for.
 fn report_for<F: Files>(alloc: Global, words: &[String], files: &mut F) -> Result<Report, Stop>
     ensures cause { IfOk result (λ report. HasCause words.now (F.told files.old) report) }
-    ensures some_cause { OnErr result ((report : Report) × HasCause words.now (F.told files.old) report) }
+    ensures some_cause { OnErr result ((report : Report)
+        × HasCause words.now (F.told files.old) report) }
     ensures unread { IsErrOf result Stop.Unread → Rose (F.faults files.old) (F.faults files.new) }
     ensures unread_file { IsErrOf result Stop.Unread → IsSome (named words.now) }
-    ensures unsound { IsErrOf result Stop.Unread → IfSome (named words.now) (λ name. Contains (F.sound files.old) name → ⊥) }
+    ensures unsound { IsErrOf result Stop.Unread
+        → IfSome (named words.now) (λ name. Contains (F.sound files.old) name → ⊥) }
 {
     let Some(name) = file_of(words) else {
         return Ok(Report::Usage);
@@ -86,24 +90,31 @@ fn report_for<F: Files>(alloc: Global, words: &[String], files: &mut F) -> Resul
 /// What the program does with its words: `verify FILE` tells whether the file's program is safe.
 pub fn run<F: Files, K: Sink>(alloc: Global, words: &[String], files: &mut F, out: &mut K) -> Status
     // Verified is told only of a program that is safe in every run of the machine.
-    ensures fine { result ≡ Status.Fine → IsAnswer words.now (F.told files.old) result (K.told out.old) (K.told out.new) }
-    ensures found { result ≡ Status.Found → IsAnswer words.now (F.told files.old) result (K.told out.old) (K.told out.new) }
-    ensures refused { result ≡ Status.Refused → IsAnswer words.now (F.told files.old) result (K.told out.old) (K.told out.new) }
+    ensures fine { result ≡ Status.Fine
+        → IsAnswer words.now (F.told files.old) result (K.told out.old) (K.told out.new) }
+    ensures found { result ≡ Status.Found
+        → IsAnswer words.now (F.told files.old) result (K.told out.old) (K.told out.new) }
+    ensures refused { result ≡ Status.Refused
+        → IsAnswer words.now (F.told files.old) result (K.told out.old) (K.told out.new) }
 
     // Where the file's content is told, its one report comes, unless a file or the sink fails or memory runs out.
-    ensures exact { (report : Report) → AreTold words.now (F.told files.old) → HasCause words.now (F.told files.old) report
+    ensures exact { (report : Report) → AreTold words.now (F.told files.old)
+        → HasCause words.now (F.told files.old) report
         → Tells report result (K.told out.old) (K.told out.new) }
 
     // A read fault is one of the file that the words name.
-    ensures read_fault { result ≡ Status.ReadFault → Rose (F.faults files.old) (F.faults files.new) }
+    ensures read_fault { result ≡ Status.ReadFault
+        → Rose (F.faults files.old) (F.faults files.new) }
     ensures read_fault_of_file { result ≡ Status.ReadFault → IsSome (named words.now) }
-    ensures read_fault_unsound { result ≡ Status.ReadFault → IfSome (named words.now) (λ name. Contains (F.sound files.old) name → ⊥) }
+    ensures read_fault_unsound { result ≡ Status.ReadFault
+        → IfSome (named words.now) (λ name. Contains (F.sound files.old) name → ⊥) }
     ensures read_fault_puts_nothing { result ≡ Status.ReadFault → K.told out.new ≡ K.told out.old }
 
     ensures write_fault { result ≡ Status.WriteFault → Rose (K.faults out.old) (K.faults out.new) }
     ensures write_fault_cut { result ≡ Status.WriteFault
         → IsCutShort words.now (F.told files.old) (K.room out.old) (K.told out.old) (K.told out.new) }
-    ensures no_memory_cut { result ≡ Status.NoMemory → IsCut words.now (F.told files.old) (K.told out.old) (K.told out.new) }
+    ensures no_memory_cut { result ≡ Status.NoMemory
+        → IsCut words.now (F.told files.old) (K.told out.old) (K.told out.new) }
 {
     match report_for(alloc, words, files) {
         Ok(report) => put_report(alloc, out, &report),

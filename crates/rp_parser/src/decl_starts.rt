@@ -30,7 +30,8 @@ pub(crate) enum DeclStart {
 fn decl_word(word: Word) -> Option<DeclStart>
     ensures { MatchOption result
         ((k : DeclTree → State) (s : SpanValue) → decl_word_step k word s ≡ None)
-        (λ t. (k : DeclTree → State) (s : SpanValue) → decl_word_step k word s ≡ Some (to 0 (decl_next k s t))) }
+        (λ t. (k : DeclTree → State) (s : SpanValue)
+        → decl_word_step k word s ≡ Some (to 0 (decl_next k s t))) }
 {
     match word {
         Word::IdType => Some(DeclStart::IdType),
@@ -49,7 +50,8 @@ pub(crate) fn decl_sign(marks: Marks) -> Option<(DeclStart, Span, Marks)>
     ensures none { MatchOption result (NoDecl marks.now) (λ _. Unit {0}) }
     ensures shorter { IfSome result (λ x. length x.2.now < length marks.now) }
     ensures reads { (xs : Items DeclTree)
-        → IfSome result (λ x. bounded 64 (in_decls xs) (toks marks.now) ≡ bounded 64 (decl_next (λ y. in_decls (xs ++ y ∷ [])) x.1 x.0) (toks x.2.now)) }
+        → IfSome result (λ x. bounded 64 (in_decls xs) (toks marks.now) ≡ bounded 64 (decl_next
+        (λ y. in_decls (xs ++ y ∷ [])) x.1 x.0) (toks x.2.now)) }
 {
     let (first, rest) = marks.split_first()?;
     let Kind::Word(word) = first.kind else {
@@ -65,7 +67,8 @@ pub(crate) fn bar_sign(marks: Marks) -> Option<Marks>
     ensures reads { (cs : Items ConTree) (k : Items ConTree → State)
         → MatchOption result
         (bounded 64 (more_cons cs k) (toks marks.now) ≡ bounded 64 (k cs) (toks marks.now))
-        (λ rest. bounded 64 (more_cons cs k) (toks marks.now) ≡ bounded 64 (want_con (λ c. more_cons (cs ++ c ∷ []) k)) (toks rest.now)) }
+        (λ rest. bounded 64 (more_cons cs k) (toks marks.now) ≡ bounded 64 (want_con
+        (λ c. more_cons (cs ++ c ∷ []) k)) (toks rest.now)) }
 {
     let (_, rest) = behind(marks, Symbol::Bar)?;
     Some(rest)
@@ -76,8 +79,10 @@ pub(crate) fn claim_sign(marks: Marks) -> Option<(&[u8], Span, Marks)>
     ensures shorter { IfSome result (λ x. length x.2.now < length marks.now) }
     ensures reads { (s : SpanValue) (k : DeclTree → State)
         → MatchOption result
-        (bounded 64 (in_invariant s k) (toks marks.now) ≡ bounded 64 (want_claim s None k) (toks marks.now))
-        (λ x. bounded 64 (in_invariant s k) (toks marks.now) ≡ bounded 64 (want_claim s (Some (ident x.0.now x.1)) k) (toks x.2.now)) }
+        (bounded 64 (in_invariant s k) (toks marks.now)
+        ≡ bounded 64 (want_claim s None k) (toks marks.now))
+        (λ x. bounded 64 (in_invariant s k) (toks marks.now)
+        ≡ bounded 64 (want_claim s (Some (ident x.0.now x.1)) k) (toks x.2.now)) }
 {
     let (first, rest) = marks.split_first()?;
     let Kind::Name(bytes) = first.kind else {

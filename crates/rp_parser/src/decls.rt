@@ -30,7 +30,8 @@ use std::alloc::Global;
 fn read_declared(alloc: Global, start: Span, marks: Marks) -> Result<(Ident, Span, Marks), Fault>
     ensures shorter { IfOk result (λ x. length x.2.now < length marks.now) }
     ensures reads { (f : IdentTree → DeclShape) (k : DeclTree → State)
-        → Gives result (bounded 64 (in_type f start k) (toks marks.now)) (λ x. bounded 64 (k (DeclTree.node x.1 (f (ident_view x.0)))) (toks x.2.now)) }
+        → Gives result (bounded 64 (in_type f start k) (toks marks.now))
+        (λ x. bounded 64 (k (DeclTree.node x.1 (f (ident_view x.0)))) (toks x.2.now)) }
 {
     let (name, after) = name(alloc, marks, 0)?;
     let (close, end) = symbol(after, Symbol::Semicolon, 0)?;
@@ -41,7 +42,8 @@ fn read_declared(alloc: Global, start: Span, marks: Marks) -> Result<(Ident, Spa
 fn read_con(alloc: Global, marks: Marks) -> Result<(ConNode, Marks), Fault>
     ensures shorter { IfOk result (λ x. length x.1.now < length marks.now) }
     ensures reads { (k : ConTree → State)
-        → Gives result (bounded 64 (want_con k) (toks marks.now)) (λ x. bounded 64 (k (con_view x.0)) (toks x.1.now)) }
+        → Gives result (bounded 64 (want_con k) (toks marks.now))
+        (λ x. bounded 64 (k (con_view x.0)) (toks x.1.now)) }
 {
     let (name, after) = name(alloc, marks, 0)?;
     let Some((_, inside)) = optional(after, Symbol::OpenParen, 0) else {
@@ -57,7 +59,8 @@ fn read_con(alloc: Global, marks: Marks) -> Result<(ConNode, Marks), Fault>
 fn read_cons(alloc: Global, marks: Marks) -> Result<(List<ConNode>, Marks), Fault>
     ensures shorter { IfOk result (λ x. length x.1.now < length marks.now) }
     ensures reads { (k : Items ConTree → State)
-        → Gives result (bounded 64 (want_cons k) (toks marks.now)) (λ x. bounded 64 (k (map con_view x.0)) (toks x.1.now)) }
+        → Gives result (bounded 64 (want_cons k) (toks marks.now))
+        (λ x. bounded 64 (k (map con_view x.0)) (toks x.1.now)) }
 {
     let mut cons = List::new(alloc);
     let (first, mut rest) = read_con(alloc, marks)?;
@@ -75,7 +78,8 @@ fn read_cons(alloc: Global, marks: Marks) -> Result<(List<ConNode>, Marks), Faul
 fn read_datatype(alloc: Global, start: Span, marks: Marks) -> Result<(Decl, Marks), Fault>
     ensures shorter { IfOk result (λ x. length x.1.now < length marks.now) }
     ensures reads { (k : DeclTree → State)
-        → Gives result (bounded 64 (in_datatype start k) (toks marks.now)) (λ x. bounded 64 (k (decl_view x.0)) (toks x.1.now)) }
+        → Gives result (bounded 64 (in_datatype start k) (toks marks.now))
+        (λ x. bounded 64 (k (decl_view x.0)) (toks x.1.now)) }
 {
     let (name, after) = name(alloc, marks, 0)?;
     let (_, after) = symbol(after, Symbol::Assign, 0)?;
@@ -89,7 +93,8 @@ fn read_datatype(alloc: Global, start: Span, marks: Marks) -> Result<(Decl, Mark
 fn read_crdt_decl(alloc: Global, start: Span, marks: Marks) -> Result<(Decl, Marks), Fault>
     ensures shorter { IfOk result (λ x. length x.1.now < length marks.now) }
     ensures reads { (k : DeclTree → State)
-        → Gives result (bounded 64 (in_crdt start k) (toks marks.now)) (λ x. bounded 64 (k (decl_view x.0)) (toks x.1.now)) }
+        → Gives result (bounded 64 (in_crdt start k) (toks marks.now))
+        (λ x. bounded 64 (k (decl_view x.0)) (toks x.1.now)) }
 {
     let (name, after) = name(alloc, marks, 0)?;
     let (_, after) = symbol(after, Symbol::Colon, 0)?;
@@ -110,7 +115,9 @@ fn read_query_body(
 ) -> Result<(Decl, Marks), Fault>
     ensures shorter { IfOk result (λ x. length x.1.now < length marks.now) }
     ensures reads { (k : DeclTree → State)
-        → Gives result (bounded 64 (in_query_body start (ident_view name) (map param_view params) (type_view ty) k) (toks marks.now)) (λ x. bounded 64 (k (decl_view x.0)) (toks x.1.now)) }
+        → Gives result
+        (bounded 64 (in_query_body start (ident_view name) (map param_view params) (type_view ty) k)
+        (toks marks.now)) (λ x. bounded 64 (k (decl_view x.0)) (toks x.1.now)) }
 {
     let (_, after) = symbol(marks, Symbol::Assign, 0)?;
     let (body, close, end) = read_sentence(alloc, after, 0)?;
@@ -133,7 +140,9 @@ fn read_query_type(
 ) -> Result<(Decl, Marks), Fault>
     ensures shorter { IfOk result (λ x. length x.1.now < length marks.now) }
     ensures reads { (k : DeclTree → State)
-        → Gives result (bounded 64 (in_query_type start (ident_view name) (map param_view params) k) (toks marks.now)) (λ x. bounded 64 (k (decl_view x.0)) (toks x.1.now)) }
+        → Gives result
+        (bounded 64 (in_query_type start (ident_view name) (map param_view params) k)
+        (toks marks.now)) (λ x. bounded 64 (k (decl_view x.0)) (toks x.1.now)) }
 {
     let (_, after) = symbol(marks, Symbol::Colon, 0)?;
     let (ty, after) = read_type(alloc, after, 0)?;
@@ -144,7 +153,8 @@ fn read_query_type(
 fn read_query(alloc: Global, start: Span, marks: Marks) -> Result<(Decl, Marks), Fault>
     ensures shorter { IfOk result (λ x. length x.1.now < length marks.now) }
     ensures reads { (k : DeclTree → State)
-        → Gives result (bounded 64 (in_query start k) (toks marks.now)) (λ x. bounded 64 (k (decl_view x.0)) (toks x.1.now)) }
+        → Gives result (bounded 64 (in_query start k) (toks marks.now))
+        (λ x. bounded 64 (k (decl_view x.0)) (toks x.1.now)) }
 {
     let (name, after) = name(alloc, marks, 0)?;
     let (params, after) = read_param_list(alloc, after, 0)?;
@@ -161,7 +171,8 @@ fn read_claim(
 ) -> Result<(Decl, Marks), Fault>
     ensures shorter { IfOk result (λ x. length x.1.now < length marks.now) }
     ensures reads { (k : DeclTree → State)
-        → Gives result (bounded 64 (want_claim start (optional_view ident_view name) k) (toks marks.now)) (λ x. bounded 64 (k (decl_view x.0)) (toks x.1.now)) }
+        → Gives result (bounded 64 (want_claim start (optional_view ident_view name) k)
+        (toks marks.now)) (λ x. bounded 64 (k (decl_view x.0)) (toks x.1.now)) }
 {
     let (claim, close, end) = read_sentence(alloc, marks, 0)?;
     let span = join(start, close);
@@ -172,7 +183,8 @@ fn read_claim(
 fn read_invariant(alloc: Global, start: Span, marks: Marks) -> Result<(Decl, Marks), Fault>
     ensures shorter { IfOk result (λ x. length x.1.now < length marks.now) }
     ensures reads { (k : DeclTree → State)
-        → Gives result (bounded 64 (in_invariant start k) (toks marks.now)) (λ x. bounded 64 (k (decl_view x.0)) (toks x.1.now)) }
+        → Gives result (bounded 64 (in_invariant start k) (toks marks.now))
+        (λ x. bounded 64 (k (decl_view x.0)) (toks x.1.now)) }
 {
     match claim_sign(marks) {
         Some((bytes, span, after)) => {
@@ -187,7 +199,8 @@ fn read_invariant(alloc: Global, start: Span, marks: Marks) -> Result<(Decl, Mar
 fn read_result(alloc: Global, marks: Marks) -> Result<(Option<TypeNode>, Marks), Fault>
     ensures no_longer { IfOk result (λ x. length x.1.now ≤ length marks.now) }
     ensures reads { (k : Optional TypeTree → State)
-        → Gives result (bounded 64 (in_result k) (toks marks.now)) (λ x. bounded 64 (k (optional_view type_view x.0)) (toks x.1.now)) }
+        → Gives result (bounded 64 (in_result k) (toks marks.now))
+        (λ x. bounded 64 (k (optional_view type_view x.0)) (toks x.1.now)) }
 {
     let Some((_, after)) = optional(marks, Symbol::Colon, 0) else {
         return Ok((None, marks));
@@ -205,7 +218,9 @@ fn read_proc_result(
 ) -> Result<(Decl, Marks), Fault>
     ensures shorter { IfOk result (λ x. length x.1.now < length marks.now) }
     ensures reads { (k : DeclTree → State)
-        → Gives result (bounded 64 (in_proc_result start (ident_view name) (map param_view params) k) (toks marks.now)) (λ x. bounded 64 (k (decl_view x.0)) (toks x.1.now)) }
+        → Gives result
+        (bounded 64 (in_proc_result start (ident_view name) (map param_view params) k)
+        (toks marks.now)) (λ x. bounded 64 (k (decl_view x.0)) (toks x.1.now)) }
 {
     let (result, after) = read_result(alloc, marks)?;
     let (body, end) = read_block(alloc, after, 0)?;
@@ -222,7 +237,8 @@ fn read_proc_result(
 fn read_proc(alloc: Global, start: Span, marks: Marks) -> Result<(Decl, Marks), Fault>
     ensures shorter { IfOk result (λ x. length x.1.now < length marks.now) }
     ensures reads { (k : DeclTree → State)
-        → Gives result (bounded 64 (in_proc start k) (toks marks.now)) (λ x. bounded 64 (k (decl_view x.0)) (toks x.1.now)) }
+        → Gives result (bounded 64 (in_proc start k) (toks marks.now))
+        (λ x. bounded 64 (k (decl_view x.0)) (toks x.1.now)) }
 {
     let (name, after) = name(alloc, marks, 0)?;
     let (params, after) = read_param_list(alloc, after, 0)?;
@@ -239,7 +255,8 @@ fn read_decl(
 ) -> Result<(Decl, Marks), Fault>
     ensures shorter { IfOk result (λ x. length x.1.now < length marks.now) }
     ensures reads { (k : DeclTree → State)
-        → Gives result (bounded 64 (decl_next k start_span start) (toks marks.now)) (λ x. bounded 64 (k (decl_view x.0)) (toks x.1.now)) }
+        → Gives result (bounded 64 (decl_next k start_span start) (toks marks.now))
+        (λ x. bounded 64 (k (decl_view x.0)) (toks x.1.now)) }
 {
     match start {
         DeclStart::IdType => {
@@ -263,7 +280,8 @@ fn read_decl(
 /// These declarations, where the end of the text is next and the last token.
 fn at_end(decls: List<Decl>, marks: Marks) -> Result<List<Decl>, Fault>
     requires { NoDecl marks.now }
-    ensures { Gives result (bounded 64 (in_decls (decls_view decls)) (toks marks.now)) (λ ds. whole (done (decls_view ds))) }
+    ensures { Gives result (bounded 64 (in_decls (decls_view decls)) (toks marks.now))
+        (λ ds. whole (done (decls_view ds))) }
 {
     let Some((first, rest)) = marks.split_first() else {
         return Err(Fault::Syntax(0));
@@ -279,7 +297,8 @@ fn at_end(decls: List<Decl>, marks: Marks) -> Result<List<Decl>, Fault>
 
 /// All tokens.
 pub(crate) fn read_program(alloc: Global, marks: Marks) -> Result<List<Decl>, Fault>
-    ensures { Gives result (bounded 64 (in_decls []) (toks marks.now)) (λ ds. whole (done (decls_view ds))) }
+    ensures { Gives result (bounded 64 (in_decls []) (toks marks.now))
+        (λ ds. whole (done (decls_view ds))) }
 {
     let mut decls = List::new(alloc);
     let Some((start, span, after)) = decl_sign(marks) else {

@@ -59,7 +59,8 @@ pub(crate) enum OperandStart {
 fn prim_word<'a>(word: Word) -> Option<PrimStart<'a>>
     ensures { MatchOption result
         ((d : ℕ) (k : Part ExprTree → State) (s : SpanValue) → prim_word_step d k word s ≡ None)
-        (λ t. (d : ℕ) (k : Part ExprTree → State) (s : SpanValue) → prim_word_step d k word s ≡ Some (to d (prim_next d k s t))) }
+        (λ t. (d : ℕ) (k : Part ExprTree → State) (s : SpanValue)
+        → prim_word_step d k word s ≡ Some (to d (prim_next d k s t))) }
 {
     match word {
         Word::True => Some(PrimStart::Leaf(Leaf::Truth(true))),
@@ -83,7 +84,8 @@ fn prim_word<'a>(word: Word) -> Option<PrimStart<'a>>
 fn prim_symbol<'a>(symbol: Symbol) -> Option<PrimStart<'a>>
     ensures { MatchOption result
         ((d : ℕ) (k : Part ExprTree → State) (s : SpanValue) → prim_symbol_step d k symbol s ≡ None)
-        (λ t. (d : ℕ) (k : Part ExprTree → State) (s : SpanValue) → prim_symbol_step d k symbol s ≡ Some (to d (prim_next d k s t))) }
+        (λ t. (d : ℕ) (k : Part ExprTree → State) (s : SpanValue)
+        → prim_symbol_step d k symbol s ≡ Some (to d (prim_next d k s t))) }
 {
     match symbol {
         Symbol::Minus => Some(PrimStart::Minus),
@@ -94,8 +96,10 @@ fn prim_symbol<'a>(symbol: Symbol) -> Option<PrimStart<'a>>
 
 fn prim_start(kind: Kind) -> Option<PrimStart>
     ensures { MatchOption result
-        ((d : ℕ) (k : Part ExprTree → State) (s : SpanValue) → prim_step d k (terminal_of kind.entry) s ≡ None)
-        (λ t. (d : ℕ) (k : Part ExprTree → State) (s : SpanValue) → prim_step d k (terminal_of kind.entry) s ≡ Some (to d (prim_next d k s t))) }
+        ((d : ℕ) (k : Part ExprTree → State) (s : SpanValue)
+        → prim_step d k (terminal_of kind.entry) s ≡ None)
+        (λ t. (d : ℕ) (k : Part ExprTree → State) (s : SpanValue)
+        → prim_step d k (terminal_of kind.entry) s ≡ Some (to d (prim_next d k s t))) }
 {
     match kind {
         Kind::Name(bytes) => Some(PrimStart::Name(bytes)),
@@ -112,7 +116,8 @@ pub(crate) fn prim_first(marks: Marks, depth: u32) -> Result<(PrimStart, Span, M
     ensures shallow { IfOk result (λ _. depth ≤ 64) }
     ensures shorter { IfOk result (λ x. length x.2.now < length marks.now) }
     ensures reads { (d : ℕ) → d ≡ depth → (k : Part ExprTree → State)
-        → Gives result (bounded 64 (want_prim d k) (toks marks.now)) (λ x. bounded 64 (prim_next d k x.1 x.0) (toks x.2.now)) }
+        → Gives result (bounded 64 (want_prim d k) (toks marks.now))
+        (λ x. bounded 64 (prim_next d k x.1 x.0) (toks x.2.now)) }
 {
     let Some((first, rest)) = marks.split_first() else {
         return Err(Fault::Syntax(0));
@@ -128,8 +133,10 @@ pub(crate) fn prim_first(marks: Marks, depth: u32) -> Result<(PrimStart, Span, M
 
 fn operand_start(kind: Kind, span: Span) -> Option<OperandStart>
     ensures { MatchOption result
-        ((d : ℕ) (k : Part ExprTree → State) (s : SpanValue) → operand_step d k (terminal_of kind.entry) s ≡ cmp_step d k (terminal_of kind.entry) s)
-        (λ t. (d : ℕ) (k : Part ExprTree → State) → operand_step d k (terminal_of kind.entry) span ≡ Some (to d (operand_next d k t))) }
+        ((d : ℕ) (k : Part ExprTree → State) (s : SpanValue)
+        → operand_step d k (terminal_of kind.entry) s ≡ cmp_step d k (terminal_of kind.entry) s)
+        (λ t. (d : ℕ) (k : Part ExprTree → State)
+        → operand_step d k (terminal_of kind.entry) span ≡ Some (to d (operand_next d k t))) }
 {
     match kind {
         Kind::Symbol(Symbol::Not) => Some(OperandStart::Not(span)),
@@ -144,7 +151,8 @@ pub(crate) fn operand_first(marks: Marks, depth: u32) -> Result<(OperandStart, M
     ensures within { IfOk result (λ x. IsWithin depth (length marks.now) (length x.1.now) x.0) }
     ensures no_longer { IfOk result (λ x. length x.1.now ≤ length marks.now) }
     ensures reads { (d : ℕ) → d ≡ depth → (k : Part ExprTree → State)
-        → Gives result (bounded 64 (want_operand d k) (toks marks.now)) (λ x. bounded 64 (operand_next d k x.0) (toks x.1.now)) }
+        → Gives result (bounded 64 (want_operand d k) (toks marks.now))
+        (λ x. bounded 64 (operand_next d k x.0) (toks x.1.now)) }
 {
     let Some((first, rest)) = marks.split_first() else {
         return Err(Fault::Syntax(0));
@@ -163,7 +171,8 @@ pub(crate) fn number(marks: Marks, depth: u32) -> Result<(u64, Span, Marks), Fau
     requires { depth ≤ 64 }
     ensures shorter { IfOk result (λ x. length x.2.now < length marks.now) }
     ensures reads { (d : ℕ) → d ≡ depth → (k : ℕ → SpanValue → State)
-        → Gives result (bounded 64 (want_int d k) (toks marks.now)) (λ x. bounded 64 (k x.0 x.1) (toks x.2.now)) }
+        → Gives result (bounded 64 (want_int d k) (toks marks.now))
+        (λ x. bounded 64 (k x.0 x.1) (toks x.2.now)) }
 {
     let Some((first, rest)) = marks.split_first() else {
         return Err(Fault::Syntax(0));

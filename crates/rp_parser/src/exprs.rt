@@ -49,7 +49,8 @@ pub(crate) fn read_expr(
     ensures no_or { IfOk result (λ x. next_is symbols.Or (toks x.2.now) ≡ false) }
     ensures no_implies { IfOk result (λ x. next_is symbols.Implies (toks x.2.now) ≡ false) }
     ensures reads { (d : ℕ) → d ≡ depth → (k : Part ExprTree → State)
-        → Gives result (bounded 64 (want_expr d k) (toks marks.now)) (λ x. bounded 64 (k (part (expr_view x.0) x.1)) (toks x.2.now)) }
+        → Gives result (bounded 64 (want_expr d k) (toks marks.now))
+        (λ x. bounded 64 (k (part (expr_view x.0) x.1)) (toks x.2.now)) }
 {
     let (left, extent, rest) = read_or(alloc, marks, depth)?;
     let Some(after) = implies_sign(rest, depth) else {
@@ -68,7 +69,8 @@ fn read_or(alloc: Global, marks: Marks, depth: u32) -> Result<(ExprNode, Span, M
     ensures no_and { IfOk result (λ x. next_is symbols.And (toks x.2.now) ≡ false) }
     ensures no_or { IfOk result (λ x. next_is symbols.Or (toks x.2.now) ≡ false) }
     ensures reads { (d : ℕ) → d ≡ depth → (k : Part ExprTree → State)
-        → Gives result (bounded 64 (want_orx d k) (toks marks.now)) (λ x. bounded 64 (k (part (expr_view x.0) x.1)) (toks x.2.now)) }
+        → Gives result (bounded 64 (want_orx d k) (toks marks.now))
+        (λ x. bounded 64 (k (part (expr_view x.0) x.1)) (toks x.2.now)) }
 {
     let (first, first_extent, behind) = read_and(alloc, marks, depth)?;
     let Some(after) = or_sign(behind, depth) else {
@@ -91,7 +93,9 @@ fn read_or_chain(
     ensures no_and { IfOk result (λ x. next_is symbols.And (toks x.2.now) ≡ false) }
     ensures no_or { IfOk result (λ x. next_is symbols.Or (toks x.2.now) ≡ false) }
     ensures reads { (d : ℕ) → d ≡ depth → (k : Part ExprTree → State)
-        → Gives result (bounded 64 (want_andx d (λ f. more_or d (part (expr_view first) first_extent) (f ∷ []) k)) (toks marks.now)) (λ x. bounded 64 (k (part (expr_view x.0) x.1)) (toks x.2.now)) }
+        → Gives result (bounded 64 (want_andx d
+        (λ f. more_or d (part (expr_view first) first_extent) (f ∷ []) k)) (toks marks.now))
+        (λ x. bounded 64 (k (part (expr_view x.0) x.1)) (toks x.2.now)) }
 {
     let (second, second_extent, mut rest) = read_and(alloc, marks, depth)?;
     let mut extent = join(first_extent, second_extent);
@@ -116,7 +120,8 @@ fn read_and(alloc: Global, marks: Marks, depth: u32) -> Result<(ExprNode, Span, 
     ensures shorter { IfOk result (λ x. length x.2.now < length marks.now) }
     ensures no_and { IfOk result (λ x. next_is symbols.And (toks x.2.now) ≡ false) }
     ensures reads { (d : ℕ) → d ≡ depth → (k : Part ExprTree → State)
-        → Gives result (bounded 64 (want_andx d k) (toks marks.now)) (λ x. bounded 64 (k (part (expr_view x.0) x.1)) (toks x.2.now)) }
+        → Gives result (bounded 64 (want_andx d k) (toks marks.now))
+        (λ x. bounded 64 (k (part (expr_view x.0) x.1)) (toks x.2.now)) }
 {
     let (first, first_extent, behind) = read_operand(alloc, marks, depth)?;
     let Some(after) = and_sign(behind, depth) else {
@@ -138,7 +143,9 @@ fn read_and_chain(
     ensures shorter { IfOk result (λ x. length x.2.now < length marks.now) }
     ensures no_and { IfOk result (λ x. next_is symbols.And (toks x.2.now) ≡ false) }
     ensures reads { (d : ℕ) → d ≡ depth → (k : Part ExprTree → State)
-        → Gives result (bounded 64 (want_operand d (λ f. more_and d (part (expr_view first) first_extent) (f ∷ []) k)) (toks marks.now)) (λ x. bounded 64 (k (part (expr_view x.0) x.1)) (toks x.2.now)) }
+        → Gives result (bounded 64 (want_operand d
+        (λ f. more_and d (part (expr_view first) first_extent) (f ∷ []) k)) (toks marks.now))
+        (λ x. bounded 64 (k (part (expr_view x.0) x.1)) (toks x.2.now)) }
 {
     let (second, second_extent, mut rest) = read_operand(alloc, marks, depth)?;
     let mut extent = join(first_extent, second_extent);
@@ -162,7 +169,8 @@ fn read_operand(alloc: Global, marks: Marks, depth: u32) -> Result<(ExprNode, Sp
     ensures shallow { IfOk result (λ _. depth ≤ 64) }
     ensures shorter { IfOk result (λ x. length x.2.now < length marks.now) }
     ensures reads { (d : ℕ) → d ≡ depth → (k : Part ExprTree → State)
-        → Gives result (bounded 64 (want_operand d k) (toks marks.now)) (λ x. bounded 64 (k (part (expr_view x.0) x.1)) (toks x.2.now)) }
+        → Gives result (bounded 64 (want_operand d k) (toks marks.now))
+        (λ x. bounded 64 (k (part (expr_view x.0) x.1)) (toks x.2.now)) }
 {
     let (start, rest) = operand_first(marks, depth)?;
     match start {
@@ -196,7 +204,9 @@ fn read_bound(
     ensures no_or { IfOk result (λ x. next_is symbols.Or (toks x.2.now) ≡ false) }
     ensures no_implies { IfOk result (λ x. next_is symbols.Implies (toks x.2.now) ≡ false) }
     ensures reads { (d : ℕ) → d ≡ depth → (k : Part ExprTree → State)
-        → Gives result (bounded 64 (want_bound (quantifier_of quantifier) d start (ident_view name) k) (toks marks.now)) (λ x. bounded 64 (k (part (expr_view x.0) x.1)) (toks x.2.now)) }
+        → Gives result (bounded 64
+        (want_bound (quantifier_of quantifier) d start (ident_view name) k) (toks marks.now))
+        (λ x. bounded 64 (k (part (expr_view x.0) x.1)) (toks x.2.now)) }
 {
     let (_, after) = symbol_within(marks, Symbol::Colon, depth)?;
     let (ty, after) = read_type(alloc, after, depth)?;
@@ -223,8 +233,12 @@ fn read_scope(
     ensures no_and { IfOk result (λ x. next_is symbols.And (toks x.2.now) ≡ false) }
     ensures no_or { IfOk result (λ x. next_is symbols.Or (toks x.2.now) ≡ false) }
     ensures no_implies { IfOk result (λ x. next_is symbols.Implies (toks x.2.now) ≡ false) }
-    ensures reads { (d : ℕ) → d ≡ depth → (v : SpanValue) (n : IdentTree) (t : TypeTree) (k : Part ExprTree → State)
-        → Gives result (bounded 64 (have_bound (quantifier_of quantifier) d v n t k) (toks marks.now)) (λ x. bounded 64 (k (quantifier_part (quantifier_of quantifier) v n t (part (expr_view x.0) x.1))) (toks x.2.now)) }
+    ensures reads { (d : ℕ) → d ≡ depth
+        → (v : SpanValue) (n : IdentTree) (t : TypeTree) (k : Part ExprTree → State)
+        → Gives result (bounded 64 (have_bound (quantifier_of quantifier) d v n t k)
+        (toks marks.now)) (λ x. bounded 64
+        (k (quantifier_part (quantifier_of quantifier) v n t (part (expr_view x.0) x.1)))
+        (toks x.2.now)) }
 {
     let (sign, rest) = bound_sign(marks, depth)?;
     match sign {
@@ -247,7 +261,8 @@ fn read_comparison(
     ensures shallow { IfOk result (λ _. depth ≤ 64) }
     ensures shorter { IfOk result (λ x. length x.2.now < length marks.now) }
     ensures reads { (d : ℕ) → d ≡ depth → (k : Part ExprTree → State)
-        → Gives result (bounded 64 (want_comparison d k) (toks marks.now)) (λ x. bounded 64 (k (part (expr_view x.0) x.1)) (toks x.2.now)) }
+        → Gives result (bounded 64 (want_comparison d k) (toks marks.now))
+        (λ x. bounded 64 (k (part (expr_view x.0) x.1)) (toks x.2.now)) }
 {
     let (left, extent, rest) = read_sum(alloc, marks, depth)?;
     let Some((op, after)) = compare_sign(rest, depth) else {
@@ -264,7 +279,8 @@ fn read_sum(alloc: Global, marks: Marks, depth: u32) -> Result<(ExprNode, Span, 
     ensures shallow { IfOk result (λ _. depth ≤ 64) }
     ensures shorter { IfOk result (λ x. length x.2.now < length marks.now) }
     ensures reads { (d : ℕ) → d ≡ depth → (k : Part ExprTree → State)
-        → Gives result (bounded 64 (want_sum d k) (toks marks.now)) (λ x. bounded 64 (k (part (expr_view x.0) x.1)) (toks x.2.now)) }
+        → Gives result (bounded 64 (want_sum d k) (toks marks.now))
+        (λ x. bounded 64 (k (part (expr_view x.0) x.1)) (toks x.2.now)) }
 {
     let (mut left, mut extent, mut rest) = read_prim(alloc, marks, depth)?;
     let mut inner = depth;
@@ -287,7 +303,8 @@ fn read_prim(alloc: Global, marks: Marks, depth: u32) -> Result<(ExprNode, Span,
     ensures shallow { IfOk result (λ _. depth ≤ 64) }
     ensures shorter { IfOk result (λ x. length x.2.now < length marks.now) }
     ensures reads { (d : ℕ) → d ≡ depth → (k : Part ExprTree → State)
-        → Gives result (bounded 64 (want_prim d k) (toks marks.now)) (λ x. bounded 64 (k (part (expr_view x.0) x.1)) (toks x.2.now)) }
+        → Gives result (bounded 64 (want_prim d k) (toks marks.now))
+        (λ x. bounded 64 (k (part (expr_view x.0) x.1)) (toks x.2.now)) }
 {
     let (start, start_span, rest) = prim_first(marks, depth)?;
     match start {
@@ -334,7 +351,8 @@ pub(crate) fn read_closed(
     requires { depth ≤ 64 }
     ensures shorter { IfOk result (λ x. length x.3.now < length marks.now) }
     ensures reads { (d : ℕ) → d ≡ depth → (k : Part ExprTree → SpanValue → State)
-        → Gives result (bounded 64 (want_closed d k) (toks marks.now)) (λ x. bounded 64 (k (part (expr_view x.0) x.1) x.2) (toks x.3.now)) }
+        → Gives result (bounded 64 (want_closed d k) (toks marks.now))
+        (λ x. bounded 64 (k (part (expr_view x.0) x.1) x.2) (toks x.3.now)) }
 {
     let (inside, extent, after) = read_expr(alloc, marks, depth + 1)?;
     let (close, end) = symbol(after, Symbol::CloseParen, depth)?;
@@ -348,7 +366,8 @@ fn read_exprs(alloc: Global, marks: Marks, depth: u32) -> Result<(List<ExprNode>
     ensures shallow { IfOk result (λ _. depth ≤ 64) }
     ensures shorter { IfOk result (λ x. length x.1.now < length marks.now) }
     ensures reads { (d : ℕ) → d ≡ depth → (k : Items ExprTree → State)
-        → Gives result (bounded 64 (want_exprs d k) (toks marks.now)) (λ x. bounded 64 (k (map expr_view x.0)) (toks x.1.now)) }
+        → Gives result (bounded 64 (want_exprs d k) (toks marks.now))
+        (λ x. bounded 64 (k (map expr_view x.0)) (toks x.1.now)) }
 {
     let mut members = List::new(alloc);
     let (first, _extent, mut rest) = read_expr(alloc, marks, depth)?;
@@ -373,7 +392,8 @@ fn read_args(
     requires { depth ≤ 64 }
     ensures shorter { IfOk result (λ x. length x.2.now < length marks.now) }
     ensures reads { (d : ℕ) → d ≡ depth → (k : Items ExprTree → SpanValue → State)
-        → Gives result (bounded 64 (want_args d k) (toks marks.now)) (λ x. bounded 64 (k (map expr_view x.0) x.1) (toks x.2.now)) }
+        → Gives result (bounded 64 (want_args d k) (toks marks.now))
+        (λ x. bounded 64 (k (map expr_view x.0) x.1) (toks x.2.now)) }
 {
     let (args, after) = read_exprs(alloc, marks, depth + 1)?;
     let (close, end) = symbol(after, Symbol::CloseParen, depth)?;
@@ -391,7 +411,8 @@ fn read_match(
     requires { depth ≤ 64 }
     ensures shorter { IfOk result (λ x. length x.2.now < length marks.now) }
     ensures reads { (d : ℕ) → d ≡ depth → (k : Part ExprTree → State)
-        → Gives result (bounded 64 (want_match d start k) (toks marks.now)) (λ x. bounded 64 (k (part (expr_view x.0) x.1)) (toks x.2.now)) }
+        → Gives result (bounded 64 (want_match d start k) (toks marks.now))
+        (λ x. bounded 64 (k (part (expr_view x.0) x.1)) (toks x.2.now)) }
 {
     let (_, inside) = symbol(marks, Symbol::OpenParen, depth)?;
     let (value, _extent, _close, after) = read_closed(alloc, inside, depth)?;
@@ -409,7 +430,8 @@ fn read_arms(alloc: Global, marks: Marks, depth: u32) -> Result<(List<ExprArm>, 
     ensures shallow { IfOk result (λ _. depth ≤ 64) }
     ensures shorter { IfOk result (λ x. length x.1.now < length marks.now) }
     ensures reads { (d : ℕ) → d ≡ depth → (k : Items ExprArmTree → State)
-        → Gives result (bounded 64 (want_expr_arms d k) (toks marks.now)) (λ x. bounded 64 (k (map expr_arm_view x.0)) (toks x.1.now)) }
+        → Gives result (bounded 64 (want_expr_arms d k) (toks marks.now))
+        (λ x. bounded 64 (k (map expr_arm_view x.0)) (toks x.1.now)) }
 {
     let mut arms = List::new(alloc);
     let (first, mut rest) = read_arm(alloc, marks, depth)?;
@@ -431,7 +453,8 @@ fn read_arm(alloc: Global, marks: Marks, depth: u32) -> Result<(ExprArm, Marks),
     ensures shallow { IfOk result (λ _. depth ≤ 64) }
     ensures shorter { IfOk result (λ x. length x.1.now < length marks.now) }
     ensures reads { (d : ℕ) → d ≡ depth → (k : ExprArmTree → State)
-        → Gives result (bounded 64 (want_expr_arm d k) (toks marks.now)) (λ x. bounded 64 (k (expr_arm_view x.0)) (toks x.1.now)) }
+        → Gives result (bounded 64 (want_expr_arm d k) (toks marks.now))
+        (λ x. bounded 64 (k (expr_arm_view x.0)) (toks x.1.now)) }
 {
     let (pattern, after) = read_arm_pattern(alloc, marks, depth)?;
     let (body, _extent, end) = read_expr(alloc, after, depth)?;
@@ -449,7 +472,8 @@ pub(crate) fn read_access(
     requires { depth ≤ 64 }
     ensures no_longer { IfOk result (λ x. length x.2.now ≤ length marks.now) }
     ensures reads { (d : ℕ) → d ≡ depth → (k : Part AccessTree → State)
-        → Gives result (bounded 64 (in_access d (ident_view root) [] root.span k) (toks marks.now)) (λ x. bounded 64 (k (part (access_view x.0) x.1)) (toks x.2.now)) }
+        → Gives result (bounded 64 (in_access d (ident_view root) [] root.span k) (toks marks.now))
+        (λ x. bounded 64 (k (part (access_view x.0) x.1)) (toks x.2.now)) }
 {
     let (steps, extent, after) = read_steps(alloc, root.span, marks, depth)?;
     let Some(inside) = args_sign(after, depth) else {
@@ -474,7 +498,8 @@ fn read_steps(
     ensures no_dot { IfOk result (λ x. next_is symbols.Dot (toks x.2.now) ≡ false) }
     ensures no_key { IfOk result (λ x. next_is symbols.OpenBracket (toks x.2.now) ≡ false) }
     ensures reads { (d : ℕ) → d ≡ depth → (n : IdentTree) (k : Part AccessTree → State)
-        → Gives result (bounded 64 (in_access d n [] root_span k) (toks marks.now)) (λ x. bounded 64 (in_access d n (map step_view x.0) x.1 k) (toks x.2.now)) }
+        → Gives result (bounded 64 (in_access d n [] root_span k) (toks marks.now))
+        (λ x. bounded 64 (in_access d n (map step_view x.0) x.1 k) (toks x.2.now)) }
 {
     let mut steps = List::new(alloc);
     let Some((sign, after)) = step_sign(marks, depth) else {
@@ -504,8 +529,11 @@ fn read_step(
 ) -> Result<(AccessStep, Span, Marks), Fault>
     requires { depth ≤ 64 }
     ensures shorter { IfOk result (λ x. length x.2.now < length marks.now) }
-    ensures reads { (d : ℕ) → d ≡ depth → (n : IdentTree) (xs : Items StepTree) (v : SpanValue) (k : Part AccessTree → State)
-        → Gives result (bounded 64 (step_next d n xs v k sign) (toks marks.now)) (λ x. bounded 64 (in_access d n (xs ++ step_view x.0 ∷ []) (join_spans v x.1) k) (toks x.2.now)) }
+    ensures reads { (d : ℕ) → d ≡ depth
+        → (n : IdentTree) (xs : Items StepTree) (v : SpanValue) (k : Part AccessTree → State)
+        → Gives result (bounded 64 (step_next d n xs v k sign) (toks marks.now))
+        (λ x. bounded 64 (in_access d n (xs ++ step_view x.0 ∷ []) (join_spans v x.1) k)
+        (toks x.2.now)) }
 {
     match sign {
         StepSign::Dot => dot_step(alloc, marks, depth),
@@ -526,8 +554,10 @@ fn read_access_args(
 ) -> Result<(List<ExprNode>, Span, Marks), Fault>
     requires { depth ≤ 64 }
     ensures shorter { IfOk result (λ x. length x.2.now < length marks.now) }
-    ensures reads { (d : ℕ) → d ≡ depth → (n : IdentTree) (xs : Items StepTree) (v : SpanValue) (k : Part AccessTree → State)
-        → Gives result (bounded 64 (in_args d n xs v k) (toks marks.now)) (λ x. bounded 64 (k (called_with n xs v (map expr_view x.0) x.1)) (toks x.2.now)) }
+    ensures reads { (d : ℕ) → d ≡ depth
+        → (n : IdentTree) (xs : Items StepTree) (v : SpanValue) (k : Part AccessTree → State)
+        → Gives result (bounded 64 (in_args d n xs v k) (toks marks.now))
+        (λ x. bounded 64 (k (called_with n xs v (map expr_view x.0) x.1)) (toks x.2.now)) }
 {
     if let Some((close, end)) = optional(marks, Symbol::CloseParen, depth) {
         return Ok((List::new(alloc), close, end));

@@ -35,7 +35,8 @@ fn escaped(byte: u8) -> u8
 
 /// The first byte that the inside of a string means, and what is left.
 fn first_meant(inside: &[u8]) -> Option<(u8, &[u8])>
-    ensures meant { MatchOption result (inside.now ≡ []) (λ x. meant inside.now ≡ x.0 ∷ meant x.1.now) }
+    ensures meant { MatchOption result (inside.now ≡ [])
+        (λ x. meant inside.now ≡ x.0 ∷ meant x.1.now) }
     ensures shorter { IfSome result (λ x. length x.1.now < length inside.now) }
 {
     let (first, rest) = inside.split_first()?;
@@ -89,7 +90,8 @@ pub(crate) fn quantified(
     variable: Param,
     body: ExprNode,
 ) -> Result<ExprNode, Memory>
-    ensures { IfOk result (λ e. expr_view e ≡ ExprTree.node span (quantified_form (quantifier_of quantifier) (param_view variable) (expr_view body))) }
+    ensures { IfOk result (λ e. expr_view e
+        ≡ ExprTree.node span (quantified_form (quantifier_of quantifier) (param_view variable) (expr_view body))) }
 {
     match quantifier {
         QuantifierKind::Forall => expr::forall(alloc, span, variable, body),
@@ -104,7 +106,8 @@ pub(crate) fn sum(
     left: ExprNode,
     right: ExprNode,
 ) -> Result<ExprNode, Memory>
-    ensures { IfOk result (λ e. expr_view e ≡ ExprTree.node span (sum_form sign (expr_view left) (expr_view right))) }
+    ensures { IfOk result (λ e. expr_view e
+        ≡ ExprTree.node span (sum_form sign (expr_view left) (expr_view right))) }
 {
     match sign {
         SumSign::Plus => expr::plus(alloc, span, left, right),

@@ -37,7 +37,8 @@ pub(crate) fn join(a: Span, b: Span) -> Span
 
 /// Where this symbol stands, and what follows it, if it is next.
 pub(crate) fn behind(marks: Marks, symbol: Symbol) -> Option<(Span, Marks)>
-    ensures next { MatchOption result (next_is symbol (toks marks.now) ≡ false) (λ x. toks marks.now ≡ at (symbol_terminal symbol) x.0 ∷ toks x.1.now) }
+    ensures next { MatchOption result (next_is symbol (toks marks.now) ≡ false)
+        (λ x. toks marks.now ≡ at (symbol_terminal symbol) x.0 ∷ toks x.1.now) }
     ensures shorter { IfSome result (λ x. length x.1.now < length marks.now) }
 {
     let (first, rest) = marks.split_first()?;
@@ -53,7 +54,8 @@ pub(crate) fn behind(marks: Marks, symbol: Symbol) -> Option<(Span, Marks)>
 
 /// Where this word stands, and what follows it, if it is next.
 pub(crate) fn word_behind(marks: Marks, word: Word) -> Option<(Span, Marks)>
-    ensures next { MatchOption result (next_is_word word (toks marks.now) ≡ false) (λ x. toks marks.now ≡ at (word_terminal word) x.0 ∷ toks x.1.now) }
+    ensures next { MatchOption result (next_is_word word (toks marks.now) ≡ false)
+        (λ x. toks marks.now ≡ at (word_terminal word) x.0 ∷ toks x.1.now) }
     ensures shorter { IfSome result (λ x. length x.1.now < length marks.now) }
 {
     let (first, rest) = marks.split_first()?;
@@ -71,7 +73,10 @@ pub(crate) fn word_behind(marks: Marks, word: Word) -> Option<(Span, Marks)>
 pub(crate) fn optional_word(marks: Marks, word: Word, depth: u32) -> Option<(Span, Marks)>
     requires { depth ≤ 64 }
     ensures reads { (d : ℕ) → d ≡ depth → (k : SpanValue → State) (other : State)
-        → MatchOption result (bounded 64 (if_word word d k other) (toks marks.now) ≡ bounded 64 other (toks marks.now)) (λ x. bounded 64 (if_word word d k other) (toks marks.now) ≡ bounded 64 (k x.0) (toks x.1.now)) }
+        → MatchOption result (bounded 64 (if_word word d k other) (toks marks.now)
+        ≡ bounded 64 other (toks marks.now))
+        (λ x. bounded 64 (if_word word d k other) (toks marks.now)
+        ≡ bounded 64 (k x.0) (toks x.1.now)) }
     ensures shorter { IfSome result (λ x. length x.1.now < length marks.now) }
 {
     word_behind(marks, word)
@@ -81,7 +86,10 @@ pub(crate) fn optional_word(marks: Marks, word: Word, depth: u32) -> Option<(Spa
 pub(crate) fn optional(marks: Marks, symbol: Symbol, depth: u32) -> Option<(Span, Marks)>
     requires { depth ≤ 64 }
     ensures reads { (d : ℕ) → d ≡ depth → (k : SpanValue → State) (other : State)
-        → MatchOption result (bounded 64 (if_symbol symbol d k other) (toks marks.now) ≡ bounded 64 other (toks marks.now)) (λ x. bounded 64 (if_symbol symbol d k other) (toks marks.now) ≡ bounded 64 (k x.0) (toks x.1.now)) }
+        → MatchOption result (bounded 64 (if_symbol symbol d k other) (toks marks.now)
+        ≡ bounded 64 other (toks marks.now))
+        (λ x. bounded 64 (if_symbol symbol d k other) (toks marks.now)
+        ≡ bounded 64 (k x.0) (toks x.1.now)) }
     ensures shorter { IfSome result (λ x. length x.1.now < length marks.now) }
 {
     behind(marks, symbol)
@@ -93,15 +101,18 @@ pub(crate) fn comma(marks: Marks, depth: u32) -> Option<Marks>
     ensures params { (d : ℕ) → d ≡ depth → (ps : Items ParamTree) (k : Items ParamTree → State)
         → MatchOption result
         (bounded 64 (more_params d ps k) (toks marks.now) ≡ bounded 64 (k ps) (toks marks.now))
-        (λ rest. bounded 64 (more_params d ps k) (toks marks.now) ≡ bounded 64 (want_param d (λ p. more_params d (ps ++ p ∷ []) k)) (toks rest.now)) }
+        (λ rest. bounded 64 (more_params d ps k) (toks marks.now) ≡ bounded 64 (want_param d
+        (λ p. more_params d (ps ++ p ∷ []) k)) (toks rest.now)) }
     ensures fields { (d : ℕ) → d ≡ depth → (fs : Items FieldTree) (k : Items FieldTree → State)
         → MatchOption result
         (bounded 64 (more_fields d fs k) (toks marks.now) ≡ bounded 64 (k fs) (toks marks.now))
-        (λ rest. bounded 64 (more_fields d fs k) (toks marks.now) ≡ bounded 64 (want_field d (λ f. more_fields d (fs ++ f ∷ []) k)) (toks rest.now)) }
+        (λ rest. bounded 64 (more_fields d fs k) (toks marks.now) ≡ bounded 64 (want_field d
+        (λ f. more_fields d (fs ++ f ∷ []) k)) (toks rest.now)) }
     ensures names { (d : ℕ) → d ≡ depth → (ns : Items IdentTree) (k : Items IdentTree → State)
         → MatchOption result
         (bounded 64 (more_names d ns k) (toks marks.now) ≡ bounded 64 (k ns) (toks marks.now))
-        (λ rest. bounded 64 (more_names d ns k) (toks marks.now) ≡ bounded 64 (want_name d (λ n. more_names d (ns ++ n ∷ []) k)) (toks rest.now)) }
+        (λ rest. bounded 64 (more_names d ns k) (toks marks.now) ≡ bounded 64 (want_name d
+        (λ n. more_names d (ns ++ n ∷ []) k)) (toks rest.now)) }
     ensures shorter { IfSome result (λ rest. length rest.now < length marks.now) }
 {
     let (_, rest) = behind(marks, Symbol::Comma)?;
@@ -111,8 +122,10 @@ pub(crate) fn comma(marks: Marks, depth: u32) -> Option<Marks>
 /// This symbol, which has to be next.
 pub(crate) fn symbol(marks: Marks, symbol: Symbol, depth: u32) -> Result<(Span, Marks), Fault>
     requires { depth ≤ 64 }
-    ensures reads { (d : ℕ) → d ≡ depth → (h : IsTrue (not (goes_on (symbol_terminal symbol)))) (k : SpanValue → State)
-        → Gives result (bounded 64 (want_symbol symbol h d k) (toks marks.now)) (λ x. bounded 64 (k x.0) (toks x.1.now)) }
+    ensures reads { (d : ℕ) → d ≡ depth
+        → (h : IsTrue (not (goes_on (symbol_terminal symbol)))) (k : SpanValue → State)
+        → Gives result (bounded 64 (want_symbol symbol h d k) (toks marks.now))
+        (λ x. bounded 64 (k x.0) (toks x.1.now)) }
     ensures shorter { IfOk result (λ x. length x.1.now < length marks.now) }
 {
     match behind(marks, symbol) {
@@ -129,8 +142,10 @@ pub(crate) fn symbol_within(
 ) -> Result<(Span, Marks), Fault>
     ensures shallow { IfOk result (λ _. depth ≤ 64) }
     ensures shorter { IfOk result (λ x. length x.1.now < length marks.now) }
-    ensures reads { (d : ℕ) → d ≡ depth → (h : IsTrue (not (goes_on (symbol_terminal symbol)))) (k : SpanValue → State)
-        → Gives result (bounded 64 (want_symbol symbol h d k) (toks marks.now)) (λ x. bounded 64 (k x.0) (toks x.1.now)) }
+    ensures reads { (d : ℕ) → d ≡ depth
+        → (h : IsTrue (not (goes_on (symbol_terminal symbol)))) (k : SpanValue → State)
+        → Gives result (bounded 64 (want_symbol symbol h d k) (toks marks.now))
+        (λ x. bounded 64 (k x.0) (toks x.1.now)) }
 {
     let Some((span, rest)) = behind(marks, symbol) else {
         return Err(Fault::Syntax(marks.len()));
@@ -144,7 +159,8 @@ pub(crate) fn symbol_within(
 /// A name, which has to be next.
 pub(crate) fn name(alloc: Global, marks: Marks, depth: u32) -> Result<(Ident, Marks), Fault>
     ensures reads { (d : ℕ) → d ≡ depth → (k : IdentTree → State)
-        → Gives result (bounded 64 (want_name d k) (toks marks.now)) (λ x. bounded 64 (k (ident_view x.0)) (toks x.1.now)) }
+        → Gives result (bounded 64 (want_name d k) (toks marks.now))
+        (λ x. bounded 64 (k (ident_view x.0)) (toks x.1.now)) }
     ensures shorter { IfOk result (λ x. length x.1.now < length marks.now) }
     ensures shallow { IfOk result (λ _. depth ≤ 64) }
 {

@@ -24,8 +24,11 @@ use std::alloc::Global;
 /// The bytes of a constructor's name, which may be one of four words.
 pub(crate) fn constructor(kind: Kind) -> Option<&[u8]>
     ensures { MatchOption result
-        ((d : ℕ) (k : PatternTree → State) (s : SpanValue) → pattern_step d k (terminal_of kind.entry) s ≡ None)
-        (λ bytes. (d : ℕ) (k : PatternTree → State) (s : SpanValue) → pattern_step d k (terminal_of kind.entry) s ≡ Some (to d (in_pattern d (ident bytes.now s) k))) }
+        ((d : ℕ) (k : PatternTree → State) (s : SpanValue)
+        → pattern_step d k (terminal_of kind.entry) s ≡ None)
+        (λ bytes. (d : ℕ) (k : PatternTree → State) (s : SpanValue)
+        → pattern_step d k (terminal_of kind.entry) s
+        ≡ Some (to d (in_pattern d (ident bytes.now s) k))) }
 {
     match kind {
         Kind::Name(bytes) => Some(bytes),
@@ -42,7 +45,8 @@ fn pattern_first(alloc: Global, marks: Marks, depth: u32) -> Result<(Ident, Mark
     ensures shallow { IfOk result (λ _. depth ≤ 64) }
     ensures shorter { IfOk result (λ x. length x.1.now < length marks.now) }
     ensures reads { (d : ℕ) → d ≡ depth → (k : PatternTree → State)
-        → Gives result (bounded 64 (want_pattern d k) (toks marks.now)) (λ x. bounded 64 (in_pattern d (ident_view x.0) k) (toks x.1.now)) }
+        → Gives result (bounded 64 (want_pattern d k) (toks marks.now))
+        (λ x. bounded 64 (in_pattern d (ident_view x.0) k) (toks x.1.now)) }
 {
     let Some((first, rest)) = marks.split_first() else {
         return Err(Fault::Syntax(0));
@@ -62,7 +66,8 @@ fn read_names(alloc: Global, marks: Marks, depth: u32) -> Result<(List<Ident>, M
     ensures shallow { IfOk result (λ _. depth ≤ 64) }
     ensures shorter { IfOk result (λ x. length x.1.now < length marks.now) }
     ensures reads { (d : ℕ) → d ≡ depth → (k : Items IdentTree → State)
-        → Gives result (bounded 64 (want_name d (λ n. more_names d (n ∷ []) k)) (toks marks.now)) (λ x. bounded 64 (k (map ident_view x.0)) (toks x.1.now)) }
+        → Gives result (bounded 64 (want_name d (λ n. more_names d (n ∷ []) k)) (toks marks.now))
+        (λ x. bounded 64 (k (map ident_view x.0)) (toks x.1.now)) }
 {
     let mut names = List::new(alloc);
     let (first, mut rest) = name(alloc, marks, depth)?;
@@ -87,7 +92,8 @@ pub(crate) fn read_variables(
     requires { depth ≤ 64 }
     ensures no_longer { IfOk result (λ x. length x.1.now ≤ length marks.now) }
     ensures reads { (d : ℕ) → d ≡ depth → (k : PatternTree → State)
-        → Gives result (bounded 64 (in_pattern d (ident_view con) k) (toks marks.now)) (λ x. bounded 64 (k (pattern_view x.0)) (toks x.1.now)) }
+        → Gives result (bounded 64 (in_pattern d (ident_view con) k) (toks marks.now))
+        (λ x. bounded 64 (k (pattern_view x.0)) (toks x.1.now)) }
 {
     let Some((_, inside)) = optional(marks, Symbol::OpenParen, depth) else {
         let vars = List::new(alloc);
@@ -108,7 +114,8 @@ pub(crate) fn read_arm_pattern(
     ensures shallow { IfOk result (λ _. depth ≤ 64) }
     ensures shorter { IfOk result (λ x. length x.1.now < length marks.now) }
     ensures reads { (d : ℕ) → d ≡ depth → (k : PatternTree → State)
-        → Gives result (bounded 64 (want_pattern d (λ p. want_symbol symbols.Arrow refl d (λ _. k p))) (toks marks.now)) (λ x. bounded 64 (k (pattern_view x.0)) (toks x.1.now)) }
+        → Gives result (bounded 64 (want_pattern d (λ p. want_symbol symbols.Arrow refl d
+        (λ _. k p))) (toks marks.now)) (λ x. bounded 64 (k (pattern_view x.0)) (toks x.1.now)) }
 {
     let (con, rest) = pattern_first(alloc, marks, depth)?;
     let (pattern, after) = read_variables(alloc, con, rest, depth)?;

@@ -33,7 +33,8 @@ pub(crate) fn read_parens(
     requires { depth ≤ 64 }
     ensures shorter { IfOk result (λ x. length x.3.now < length marks.now) }
     ensures reads { (d : ℕ) → d ≡ depth → (k : Part ExprTree → SpanValue → State)
-        → Gives result (bounded 64 (want_parens d k) (toks marks.now)) (λ x. bounded 64 (k (part (expr_view x.0) x.1) x.2) (toks x.3.now)) }
+        → Gives result (bounded 64 (want_parens d k) (toks marks.now))
+        (λ x. bounded 64 (k (part (expr_view x.0) x.1) x.2) (toks x.3.now)) }
 {
     let (_, inside) = symbol(marks, Symbol::OpenParen, depth)?;
     let (inner, extent, close, end) = read_closed(alloc, inside, depth)?;
@@ -49,7 +50,8 @@ pub(crate) fn read_sentence(
     requires { depth ≤ 64 }
     ensures shorter { IfOk result (λ x. length x.2.now < length marks.now) }
     ensures reads { (d : ℕ) → d ≡ depth → (k : ExprTree → SpanValue → State)
-        → Gives result (bounded 64 (want_sentence d k) (toks marks.now)) (λ x. bounded 64 (k (expr_view x.0) x.1) (toks x.2.now)) }
+        → Gives result (bounded 64 (want_sentence d k) (toks marks.now))
+        (λ x. bounded 64 (k (expr_view x.0) x.1) (toks x.2.now)) }
 {
     let (value, _extent, after) = read_expr(alloc, marks, depth)?;
     let (close, end) = symbol(after, Symbol::Semicolon, depth)?;
@@ -66,7 +68,8 @@ fn read_new(
     requires { depth ≤ 64 }
     ensures shorter { IfOk result (λ x. length x.1.now < length marks.now) }
     ensures reads { (d : ℕ) → d ≡ depth → (k : StmtTree → State)
-        → Gives result (bounded 64 (want_new d (ident_view name) k) (toks marks.now)) (λ x. bounded 64 (k (stmt_view x.0)) (toks x.1.now)) }
+        → Gives result (bounded 64 (want_new d (ident_view name) k) (toks marks.now))
+        (λ x. bounded 64 (k (stmt_view x.0)) (toks x.1.now)) }
 {
     let (ty, after) = crate::next::name(alloc, marks, depth)?;
     let (close, end) = symbol(after, Symbol::Semicolon, depth)?;
@@ -84,7 +87,8 @@ fn read_value(
     requires { depth ≤ 64 }
     ensures shorter { IfOk result (λ x. length x.1.now < length marks.now) }
     ensures reads { (d : ℕ) → d ≡ depth → (k : StmtTree → State)
-        → Gives result (bounded 64 (want_value d (ident_view name) k) (toks marks.now)) (λ x. bounded 64 (k (stmt_view x.0)) (toks x.1.now)) }
+        → Gives result (bounded 64 (want_value d (ident_view name) k) (toks marks.now))
+        (λ x. bounded 64 (k (stmt_view x.0)) (toks x.1.now)) }
 {
     if let Some((_, after)) = optional_word(marks, Word::New, depth) {
         return read_new(alloc, name, after, depth);
@@ -104,7 +108,8 @@ fn read_access_stmt(
     requires { depth ≤ 64 }
     ensures shorter { IfOk result (λ x. length x.1.now < length marks.now) }
     ensures reads { (d : ℕ) → d ≡ depth → (k : StmtTree → State)
-        → Gives result (bounded 64 (in_access_stmt d (ident_view name) k) (toks marks.now)) (λ x. bounded 64 (k (stmt_view x.0)) (toks x.1.now)) }
+        → Gives result (bounded 64 (in_access_stmt d (ident_view name) k) (toks marks.now))
+        (λ x. bounded 64 (k (stmt_view x.0)) (toks x.1.now)) }
 {
     let (access, extent, after) = read_access(alloc, name, marks, depth)?;
     let (close, end) = symbol(after, Symbol::Semicolon, depth)?;
@@ -122,7 +127,8 @@ pub(crate) fn read_named(
     requires { depth ≤ 64 }
     ensures shorter { IfOk result (λ x. length x.1.now < length marks.now) }
     ensures reads { (d : ℕ) → d ≡ depth → (k : StmtTree → State)
-        → Gives result (bounded 64 (in_named d (ident_view name) k) (toks marks.now)) (λ x. bounded 64 (k (stmt_view x.0)) (toks x.1.now)) }
+        → Gives result (bounded 64 (in_named d (ident_view name) k) (toks marks.now))
+        (λ x. bounded 64 (k (stmt_view x.0)) (toks x.1.now)) }
 {
     if let Some((_, after)) = optional(marks, Symbol::Assign, depth) {
         return read_value(alloc, name, after, depth);
@@ -142,7 +148,8 @@ fn read_initial(
     requires { depth ≤ 64 }
     ensures shorter { IfOk result (λ x. length x.1.now < length marks.now) }
     ensures reads { (d : ℕ) → d ≡ depth → (k : StmtTree → State)
-        → Gives result (bounded 64 (in_initial d start (ident_view name) (type_view ty) k) (toks marks.now)) (λ x. bounded 64 (k (stmt_view x.0)) (toks x.1.now)) }
+        → Gives result (bounded 64 (in_initial d start (ident_view name) (type_view ty) k)
+        (toks marks.now)) (λ x. bounded 64 (k (stmt_view x.0)) (toks x.1.now)) }
 {
     if let Some((_, after)) = optional(marks, Symbol::Assign, depth) {
         let (value, close, end) = read_sentence(alloc, after, depth)?;
@@ -164,7 +171,8 @@ pub(crate) fn read_var(
     requires { depth ≤ 64 }
     ensures shorter { IfOk result (λ x. length x.1.now < length marks.now) }
     ensures reads { (d : ℕ) → d ≡ depth → (k : StmtTree → State)
-        → Gives result (bounded 64 (in_var d start k) (toks marks.now)) (λ x. bounded 64 (k (stmt_view x.0)) (toks x.1.now)) }
+        → Gives result (bounded 64 (in_var d start k) (toks marks.now))
+        (λ x. bounded 64 (k (stmt_view x.0)) (toks x.1.now)) }
 {
     let (name, after) = name(alloc, marks, depth)?;
     let (_, after) = symbol(after, Symbol::Colon, depth)?;
@@ -183,7 +191,8 @@ pub(crate) fn read_return(
     requires { depth ≤ 64 }
     ensures shorter { IfOk result (λ x. length x.1.now < length marks.now) }
     ensures reads { (d : ℕ) → d ≡ depth → (k : StmtTree → State)
-        → Gives result (bounded 64 (in_return d start k) (toks marks.now)) (λ x. bounded 64 (k (stmt_view x.0)) (toks x.1.now)) }
+        → Gives result (bounded 64 (in_return d start k) (toks marks.now))
+        (λ x. bounded 64 (k (stmt_view x.0)) (toks x.1.now)) }
 {
     if let Some((close, end)) = optional(marks, Symbol::Semicolon, depth) {
         let span = join(start, close);

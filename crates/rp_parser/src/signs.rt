@@ -27,12 +27,16 @@ use std::alloc::Global;
 /// What follows `&&`, if that is next.
 pub(crate) fn and_sign(marks: Marks, depth: u32) -> Option<Marks>
     requires { depth ≤ 64 }
-    ensures none { MatchOption result (next_is symbols.And (toks marks.now) ≡ false) (λ _. Unit {0}) }
+    ensures none { MatchOption result (next_is symbols.And (toks marks.now) ≡ false)
+        (λ _. Unit {0}) }
     ensures shorter { IfSome result (λ rest. length rest.now < length marks.now) }
-    ensures reads { (d : ℕ) → d ≡ depth → (e : Part ExprTree) (es : Items (Part ExprTree)) (k : Part ExprTree → State)
+    ensures reads { (d : ℕ) → d ≡ depth
+        → (e : Part ExprTree) (es : Items (Part ExprTree)) (k : Part ExprTree → State)
         → MatchOption result
-        (bounded 64 (more_and d e es k) (toks marks.now) ≡ bounded 64 (k (and_part e es)) (toks marks.now))
-        (λ rest. bounded 64 (more_and d e es k) (toks marks.now) ≡ bounded 64 (want_operand d (λ f. more_and d e (es ++ f ∷ []) k)) (toks rest.now)) }
+        (bounded 64 (more_and d e es k) (toks marks.now)
+        ≡ bounded 64 (k (and_part e es)) (toks marks.now))
+        (λ rest. bounded 64 (more_and d e es k) (toks marks.now) ≡ bounded 64 (want_operand d
+        (λ f. more_and d e (es ++ f ∷ []) k)) (toks rest.now)) }
 {
     let (_, rest) = behind(marks, Symbol::And)?;
     Some(rest)
@@ -41,12 +45,16 @@ pub(crate) fn and_sign(marks: Marks, depth: u32) -> Option<Marks>
 /// What follows `||`, if that is next.
 pub(crate) fn or_sign(marks: Marks, depth: u32) -> Option<Marks>
     requires { depth ≤ 64 }
-    ensures none { MatchOption result (next_is symbols.Or (toks marks.now) ≡ false) (λ _. Unit {0}) }
+    ensures none { MatchOption result (next_is symbols.Or (toks marks.now) ≡ false)
+        (λ _. Unit {0}) }
     ensures shorter { IfSome result (λ rest. length rest.now < length marks.now) }
-    ensures reads { (d : ℕ) → d ≡ depth → (e : Part ExprTree) (es : Items (Part ExprTree)) (k : Part ExprTree → State)
+    ensures reads { (d : ℕ) → d ≡ depth
+        → (e : Part ExprTree) (es : Items (Part ExprTree)) (k : Part ExprTree → State)
         → MatchOption result
-        (bounded 64 (more_or d e es k) (toks marks.now) ≡ bounded 64 (k (or_part e es)) (toks marks.now))
-        (λ rest. bounded 64 (more_or d e es k) (toks marks.now) ≡ bounded 64 (want_andx d (λ f. more_or d e (es ++ f ∷ []) k)) (toks rest.now)) }
+        (bounded 64 (more_or d e es k) (toks marks.now)
+        ≡ bounded 64 (k (or_part e es)) (toks marks.now))
+        (λ rest. bounded 64 (more_or d e es k) (toks marks.now) ≡ bounded 64 (want_andx d
+        (λ f. more_or d e (es ++ f ∷ []) k)) (toks rest.now)) }
 {
     let (_, rest) = behind(marks, Symbol::Or)?;
     Some(rest)
@@ -55,12 +63,14 @@ pub(crate) fn or_sign(marks: Marks, depth: u32) -> Option<Marks>
 /// What follows `==>`, if that is next.
 pub(crate) fn implies_sign(marks: Marks, depth: u32) -> Option<Marks>
     requires { depth ≤ 64 }
-    ensures none { MatchOption result (next_is symbols.Implies (toks marks.now) ≡ false) (λ _. Unit {0}) }
+    ensures none { MatchOption result (next_is symbols.Implies (toks marks.now) ≡ false)
+        (λ _. Unit {0}) }
     ensures shorter { IfSome result (λ rest. length rest.now < length marks.now) }
     ensures reads { (d : ℕ) → d ≡ depth → (a : Part ExprTree) (k : Part ExprTree → State)
         → MatchOption result
         (bounded 64 (more_implies d a k) (toks marks.now) ≡ bounded 64 (k a) (toks marks.now))
-        (λ rest. bounded 64 (more_implies d a k) (toks marks.now) ≡ bounded 64 (want_expr (suc d) (λ b. k (between ExprForm.implies a b))) (toks rest.now)) }
+        (λ rest. bounded 64 (more_implies d a k) (toks marks.now) ≡ bounded 64 (want_expr (suc d)
+        (λ b. k (between ExprForm.implies a b))) (toks rest.now)) }
 {
     let (_, rest) = behind(marks, Symbol::Implies)?;
     Some(rest)
@@ -78,7 +88,8 @@ fn sum_symbol(marks: Marks) -> Option<(SumSign, Marks)>
     ensures reads { (d : ℕ) → d ≤ 64 → (a : Part ExprTree) (k : Part ExprTree → State)
         → MatchOption result
         (bounded 64 (more_sum d a k) (toks marks.now) ≡ bounded 64 (k a) (toks marks.now))
-        (λ x. bounded 64 (more_sum d a k) (toks marks.now) ≡ bounded 64 (want_prim (suc d) (λ b. more_sum (suc d) (between (sum_form x.0) a b) k)) (toks x.1.now)) }
+        (λ x. bounded 64 (more_sum d a k) (toks marks.now) ≡ bounded 64 (want_prim (suc d)
+        (λ b. more_sum (suc d) (between (sum_form x.0) a b) k)) (toks x.1.now)) }
 {
     let (first, rest) = marks.split_first()?;
     match first.kind {
@@ -95,7 +106,8 @@ pub(crate) fn sum_sign(marks: Marks, depth: u32) -> Option<(SumSign, Marks)>
     ensures reads { (d : ℕ) → d ≡ depth → (a : Part ExprTree) (k : Part ExprTree → State)
         → MatchOption result
         (bounded 64 (more_sum d a k) (toks marks.now) ≡ bounded 64 (k a) (toks marks.now))
-        (λ x. bounded 64 (more_sum d a k) (toks marks.now) ≡ bounded 64 (want_prim (suc d) (λ b. more_sum (suc d) (between (sum_form x.0) a b) k)) (toks x.1.now)) }
+        (λ x. bounded 64 (more_sum d a k) (toks marks.now) ≡ bounded 64 (want_prim (suc d)
+        (λ b. more_sum (suc d) (between (sum_form x.0) a b) k)) (toks x.1.now)) }
 {
     sum_symbol(marks)
 }
@@ -121,7 +133,8 @@ pub(crate) fn compare_sign(marks: Marks, depth: u32) -> Option<(CompareOp, Marks
     ensures reads { (d : ℕ) → d ≡ depth → (a : Part ExprTree) (k : Part ExprTree → State)
         → MatchOption result
         (bounded 64 (more_cmp d a k) (toks marks.now) ≡ bounded 64 (k a) (toks marks.now))
-        (λ x. bounded 64 (more_cmp d a k) (toks marks.now) ≡ bounded 64 (want_sum d (λ b. k (between (ExprForm.compare x.0) a b))) (toks x.1.now)) }
+        (λ x. bounded 64 (more_cmp d a k) (toks marks.now) ≡ bounded 64 (want_sum d
+        (λ b. k (between (ExprForm.compare x.0) a b))) (toks x.1.now)) }
 {
     let (first, rest) = marks.split_first()?;
     let Kind::Symbol(symbol) = first.kind else {
@@ -138,11 +151,13 @@ pub(crate) fn expr_comma(marks: Marks, depth: u32) -> Option<Marks>
     ensures exprs { (d : ℕ) → d ≡ depth → (es : Items ExprTree) (k : Items ExprTree → State)
         → MatchOption result
         (bounded 64 (more_exprs d es k) (toks marks.now) ≡ bounded 64 (k es) (toks marks.now))
-        (λ rest. bounded 64 (more_exprs d es k) (toks marks.now) ≡ bounded 64 (want_expr d (λ e. more_exprs d (es ++ tree_of e ∷ []) k)) (toks rest.now)) }
+        (λ rest. bounded 64 (more_exprs d es k) (toks marks.now) ≡ bounded 64 (want_expr d
+        (λ e. more_exprs d (es ++ tree_of e ∷ []) k)) (toks rest.now)) }
     ensures arms { (d : ℕ) → d ≡ depth → (as_ : Items ExprArmTree) (k : Items ExprArmTree → State)
         → MatchOption result
         (bounded 64 (more_expr_arms d as_ k) (toks marks.now) ≡ bounded 64 (k as_) (toks marks.now))
-        (λ rest. bounded 64 (more_expr_arms d as_ k) (toks marks.now) ≡ bounded 64 (want_expr_arm d (λ a. more_expr_arms d (as_ ++ a ∷ []) k)) (toks rest.now)) }
+        (λ rest. bounded 64 (more_expr_arms d as_ k) (toks marks.now) ≡ bounded 64 (want_expr_arm d
+        (λ a. more_expr_arms d (as_ ++ a ∷ []) k)) (toks rest.now)) }
 {
     let (_, rest) = behind(marks, Symbol::Comma)?;
     Some(rest)
@@ -158,8 +173,11 @@ pub(crate) enum BoundSign {
 pub(crate) fn bound_sign(marks: Marks, depth: u32) -> Result<(BoundSign, Marks), Fault>
     requires { depth ≤ 64 }
     ensures shorter { IfOk result (λ x. length x.1.now < length marks.now) }
-    ensures reads { (d : ℕ) → d ≡ depth → (q : Quantifier) (v : SpanValue) (n : IdentTree) (t : TypeTree) (k : Part ExprTree → State)
-        → Gives result (bounded 64 (have_bound q d v n t k) (toks marks.now)) (λ x. bounded 64 (bound_next q d v n t k x.0) (toks x.1.now)) }
+    ensures reads { (d : ℕ) → d ≡ depth
+        → (q : Quantifier) (v : SpanValue) (n : IdentTree) (t : TypeTree) (k : Part ExprTree
+        → State)
+        → Gives result (bounded 64 (have_bound q d v n t k) (toks marks.now))
+        (λ x. bounded 64 (bound_next q d v n t k x.0) (toks x.1.now)) }
 {
     if let Some((_, rest)) = behind(marks, Symbol::DoubleColon) {
         return Ok((BoundSign::Body, rest));
@@ -180,11 +198,15 @@ pub(crate) enum StepSign {
 /// The first token of a step of an access, if one is next.
 pub(crate) fn step_sign(marks: Marks, depth: u32) -> Option<(StepSign, Marks)>
     requires { depth ≤ 64 }
-    ensures no_dot { MatchOption result (next_is symbols.Dot (toks marks.now) ≡ false) (λ _. Unit {0}) }
-    ensures no_key { MatchOption result (next_is symbols.OpenBracket (toks marks.now) ≡ false) (λ _. Unit {0}) }
+    ensures no_dot { MatchOption result (next_is symbols.Dot (toks marks.now) ≡ false)
+        (λ _. Unit {0}) }
+    ensures no_key { MatchOption result (next_is symbols.OpenBracket (toks marks.now) ≡ false)
+        (λ _. Unit {0}) }
     ensures shorter { IfSome result (λ x. length x.1.now < length marks.now) }
-    ensures reads { (d : ℕ) → d ≡ depth → (n : IdentTree) (xs : Items StepTree) (v : SpanValue) (k : Part AccessTree → State)
-        → IfSome result (λ x. bounded 64 (in_access d n xs v k) (toks marks.now) ≡ bounded 64 (step_next d n xs v k x.0) (toks x.1.now)) }
+    ensures reads { (d : ℕ) → d ≡ depth
+        → (n : IdentTree) (xs : Items StepTree) (v : SpanValue) (k : Part AccessTree → State)
+        → IfSome result (λ x. bounded 64 (in_access d n xs v k) (toks marks.now)
+        ≡ bounded 64 (step_next d n xs v k x.0) (toks x.1.now)) }
 {
     if let Some((_, rest)) = behind(marks, Symbol::Dot) {
         return Some((StepSign::Dot, rest));
@@ -199,10 +221,13 @@ pub(crate) fn args_sign(marks: Marks, depth: u32) -> Option<Marks>
     requires no_dot { next_is symbols.Dot (toks marks.now) ≡ false }
     requires no_key { next_is symbols.OpenBracket (toks marks.now) ≡ false }
     ensures shorter { IfSome result (λ rest. length rest.now < length marks.now) }
-    ensures reads { (d : ℕ) → d ≡ depth → (n : IdentTree) (xs : Items StepTree) (v : SpanValue) (k : Part AccessTree → State)
+    ensures reads { (d : ℕ) → d ≡ depth
+        → (n : IdentTree) (xs : Items StepTree) (v : SpanValue) (k : Part AccessTree → State)
         → MatchOption result
-        (bounded 64 (in_access d n xs v k) (toks marks.now) ≡ bounded 64 (k (not_called n xs v)) (toks marks.now))
-        (λ rest. bounded 64 (in_access d n xs v k) (toks marks.now) ≡ bounded 64 (in_args d n xs v k) (toks rest.now)) }
+        (bounded 64 (in_access d n xs v k) (toks marks.now)
+        ≡ bounded 64 (k (not_called n xs v)) (toks marks.now))
+        (λ rest. bounded 64 (in_access d n xs v k) (toks marks.now)
+        ≡ bounded 64 (in_args d n xs v k) (toks rest.now)) }
 {
     let (_, rest) = behind(marks, Symbol::OpenParen)?;
     Some(rest)
@@ -216,8 +241,11 @@ pub(crate) fn dot_step(
 ) -> Result<(AccessStep, Span, Marks), Fault>
     requires { depth ≤ 64 }
     ensures shorter { IfOk result (λ x. length x.2.now < length marks.now) }
-    ensures reads { (d : ℕ) → d ≡ depth → (n : IdentTree) (xs : Items StepTree) (v : SpanValue) (k : Part AccessTree → State)
-        → Gives result (bounded 64 (want_step d n xs v k) (toks marks.now)) (λ x. bounded 64 (in_access d n (xs ++ step_view x.0 ∷ []) (join_spans v x.1) k) (toks x.2.now)) }
+    ensures reads { (d : ℕ) → d ≡ depth
+        → (n : IdentTree) (xs : Items StepTree) (v : SpanValue) (k : Part AccessTree → State)
+        → Gives result (bounded 64 (want_step d n xs v k) (toks marks.now))
+        (λ x. bounded 64 (in_access d n (xs ++ step_view x.0 ∷ []) (join_spans v x.1) k)
+        (toks x.2.now)) }
 {
     if let Some((span, rest)) = optional_word(marks, Word::Returned, depth) {
         return Ok((expr::returned(span), span, rest));

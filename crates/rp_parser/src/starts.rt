@@ -61,7 +61,8 @@ pub(crate) enum CrdtStart {
 fn type_word<'a>(word: Word) -> Option<TypeStart<'a>>
     ensures { MatchOption result
         ((d : ℕ) (k : TypeTree → State) (s : SpanValue) → type_word_step d k word s ≡ None)
-        (λ t. (d : ℕ) (k : TypeTree → State) (s : SpanValue) → type_word_step d k word s ≡ Some (to d (type_next d k s t))) }
+        (λ t. (d : ℕ) (k : TypeTree → State) (s : SpanValue)
+        → type_word_step d k word s ≡ Some (to d (type_next d k s t))) }
 {
     match word {
         Word::Bool => Some(TypeStart::Plain(PlainType::Bool)),
@@ -76,8 +77,10 @@ fn type_word<'a>(word: Word) -> Option<TypeStart<'a>>
 
 fn type_start(kind: Kind) -> Option<TypeStart>
     ensures { MatchOption result
-        ((d : ℕ) (k : TypeTree → State) (s : SpanValue) → type_step d k (terminal_of kind.entry) s ≡ None)
-        (λ t. (d : ℕ) (k : TypeTree → State) (s : SpanValue) → type_step d k (terminal_of kind.entry) s ≡ Some (to d (type_next d k s t))) }
+        ((d : ℕ) (k : TypeTree → State) (s : SpanValue)
+        → type_step d k (terminal_of kind.entry) s ≡ None)
+        (λ t. (d : ℕ) (k : TypeTree → State) (s : SpanValue)
+        → type_step d k (terminal_of kind.entry) s ≡ Some (to d (type_next d k s t))) }
 {
     match kind {
         Kind::Name(bytes) => Some(TypeStart::Plain(PlainType::Named(bytes))),
@@ -91,7 +94,8 @@ pub(crate) fn type_first(marks: Marks, depth: u32) -> Result<(TypeStart, Span, M
     ensures shallow { IfOk result (λ _. depth ≤ 64) }
     ensures shorter { IfOk result (λ x. length x.2.now < length marks.now) }
     ensures reads { (d : ℕ) → d ≡ depth → (k : TypeTree → State)
-        → Gives result (bounded 64 (want_type d k) (toks marks.now)) (λ x. bounded 64 (type_next d k x.1 x.0) (toks x.2.now)) }
+        → Gives result (bounded 64 (want_type d k) (toks marks.now))
+        (λ x. bounded 64 (type_next d k x.1 x.0) (toks x.2.now)) }
 {
     let Some((first, rest)) = marks.split_first() else {
         return Err(Fault::Syntax(0));
@@ -108,7 +112,8 @@ pub(crate) fn type_first(marks: Marks, depth: u32) -> Result<(TypeStart, Span, M
 fn crdt_word(word: Word) -> Option<CrdtStart>
     ensures { MatchOption result
         ((d : ℕ) (k : CrdtTree → State) (s : SpanValue) → crdt_word_step d k word s ≡ None)
-        (λ t. (d : ℕ) (k : CrdtTree → State) (s : SpanValue) → crdt_word_step d k word s ≡ Some (to d (crdt_next d k s t))) }
+        (λ t. (d : ℕ) (k : CrdtTree → State) (s : SpanValue)
+        → crdt_word_step d k word s ≡ Some (to d (crdt_next d k s t))) }
 {
     match word {
         Word::SetAw => Some(CrdtStart::Container(Container::SetAw)),
@@ -125,7 +130,8 @@ fn crdt_word(word: Word) -> Option<CrdtStart>
 fn crdt_symbol(symbol: Symbol) -> Option<CrdtStart>
     ensures { MatchOption result
         ((d : ℕ) (k : CrdtTree → State) (s : SpanValue) → crdt_symbol_step d k symbol s ≡ None)
-        (λ t. (d : ℕ) (k : CrdtTree → State) (s : SpanValue) → crdt_symbol_step d k symbol s ≡ Some (to d (crdt_next d k s t))) }
+        (λ t. (d : ℕ) (k : CrdtTree → State) (s : SpanValue)
+        → crdt_symbol_step d k symbol s ≡ Some (to d (crdt_next d k s t))) }
 {
     match symbol {
         Symbol::OpenBrace => Some(CrdtStart::Struct),
@@ -135,8 +141,10 @@ fn crdt_symbol(symbol: Symbol) -> Option<CrdtStart>
 
 fn crdt_start(kind: Kind) -> Option<CrdtStart>
     ensures { MatchOption result
-        ((d : ℕ) (k : CrdtTree → State) (s : SpanValue) → crdt_step d k (terminal_of kind.entry) s ≡ None)
-        (λ t. (d : ℕ) (k : CrdtTree → State) (s : SpanValue) → crdt_step d k (terminal_of kind.entry) s ≡ Some (to d (crdt_next d k s t))) }
+        ((d : ℕ) (k : CrdtTree → State) (s : SpanValue)
+        → crdt_step d k (terminal_of kind.entry) s ≡ None)
+        (λ t. (d : ℕ) (k : CrdtTree → State) (s : SpanValue)
+        → crdt_step d k (terminal_of kind.entry) s ≡ Some (to d (crdt_next d k s t))) }
 {
     match kind {
         Kind::Word(word) => crdt_word(word),
@@ -150,7 +158,8 @@ pub(crate) fn crdt_first(marks: Marks, depth: u32) -> Result<(CrdtStart, Span, M
     ensures shallow { IfOk result (λ _. depth ≤ 64) }
     ensures shorter { IfOk result (λ x. length x.2.now < length marks.now) }
     ensures reads { (d : ℕ) → d ≡ depth → (k : CrdtTree → State)
-        → Gives result (bounded 64 (want_crdt d k) (toks marks.now)) (λ x. bounded 64 (crdt_next d k x.1 x.0) (toks x.2.now)) }
+        → Gives result (bounded 64 (want_crdt d k) (toks marks.now))
+        (λ x. bounded 64 (crdt_next d k x.1 x.0) (toks x.2.now)) }
 {
     let Some((first, rest)) = marks.split_first() else {
         return Err(Fault::Syntax(0));

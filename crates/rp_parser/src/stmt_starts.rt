@@ -34,7 +34,8 @@ pub(crate) enum StmtStart<'a> {
 fn stmt_word<'a>(word: Word) -> Option<StmtStart<'a>>
     ensures { MatchOption result
         ((d : ℕ) (k : StmtTree → State) (s : SpanValue) → stmt_word_step d k word s ≡ None)
-        (λ t. (d : ℕ) (k : StmtTree → State) (s : SpanValue) → stmt_word_step d k word s ≡ Some (to d (stmt_next d k s t))) }
+        (λ t. (d : ℕ) (k : StmtTree → State) (s : SpanValue)
+        → stmt_word_step d k word s ≡ Some (to d (stmt_next d k s t))) }
 {
     match word {
         Word::Var => Some(StmtStart::Var),
@@ -49,8 +50,10 @@ fn stmt_word<'a>(word: Word) -> Option<StmtStart<'a>>
 
 fn stmt_start(kind: Kind) -> Option<StmtStart>
     ensures { MatchOption result
-        ((d : ℕ) (k : StmtTree → State) (s : SpanValue) → stmt_step d k (terminal_of kind.entry) s ≡ None)
-        (λ t. (d : ℕ) (k : StmtTree → State) (s : SpanValue) → stmt_step d k (terminal_of kind.entry) s ≡ Some (to d (stmt_next d k s t))) }
+        ((d : ℕ) (k : StmtTree → State) (s : SpanValue)
+        → stmt_step d k (terminal_of kind.entry) s ≡ None)
+        (λ t. (d : ℕ) (k : StmtTree → State) (s : SpanValue)
+        → stmt_step d k (terminal_of kind.entry) s ≡ Some (to d (stmt_next d k s t))) }
 {
     match kind {
         Kind::Name(bytes) => Some(StmtStart::Name(bytes)),
@@ -65,7 +68,8 @@ pub(crate) fn stmt_sign(marks: Marks) -> Option<(StmtStart, Span, Marks)>
     ensures reads { (d : ℕ) (xs : Items StmtTree) (k : Items StmtTree → State)
         → MatchOption result
         (bounded 64 (in_stmts d xs k) (toks marks.now) ≡ bounded 64 (k xs) (toks marks.now))
-        (λ x. Moves d (in_stmts d xs k) (toks marks.now) (stmt_next d (λ y. in_stmts d (xs ++ y ∷ []) k) x.1 x.0) (toks x.2.now)) }
+        (λ x. Moves d (in_stmts d xs k) (toks marks.now) (stmt_next d
+        (λ y. in_stmts d (xs ++ y ∷ []) k) x.1 x.0) (toks x.2.now)) }
 {
     let (first, rest) = marks.split_first()?;
     let start = stmt_start(first.kind)?;
@@ -78,7 +82,8 @@ pub(crate) fn arm_sign(marks: Marks) -> Option<(&[u8], Span, Marks)>
     ensures reads { (d : ℕ) (as_ : Items BlockArmTree) (k : Items BlockArmTree → State)
         → MatchOption result
         (bounded 64 (in_block_arms d as_ k) (toks marks.now) ≡ bounded 64 (k as_) (toks marks.now))
-        (λ x. Moves d (in_block_arms d as_ k) (toks marks.now) (in_arm d (ident x.0.now x.1) (λ a. in_block_arms d (as_ ++ a ∷ []) k)) (toks x.2.now)) }
+        (λ x. Moves d (in_block_arms d as_ k) (toks marks.now) (in_arm d (ident x.0.now x.1)
+        (λ a. in_block_arms d (as_ ++ a ∷ []) k)) (toks x.2.now)) }
 {
     let (first, rest) = marks.split_first()?;
     let con = constructor(first.kind)?;
@@ -89,10 +94,13 @@ pub(crate) fn arm_sign(marks: Marks) -> Option<(&[u8], Span, Marks)>
 pub(crate) fn else_sign(marks: Marks, depth: u32) -> Option<Marks>
     requires { depth ≤ 64 }
     ensures shorter { IfSome result (λ rest. length rest.now < length marks.now) }
-    ensures reads { (d : ℕ) → d ≡ depth → (v : SpanValue) (e : ExprTree) (b : BlockTree) (k : StmtTree → State)
+    ensures reads { (d : ℕ) → d ≡ depth
+        → (v : SpanValue) (e : ExprTree) (b : BlockTree) (k : StmtTree → State)
         → MatchOption result
-        (bounded 64 (more_if d v e b k) (toks marks.now) ≡ bounded 64 (k (alone v e b)) (toks marks.now))
-        (λ rest. bounded 64 (more_if d v e b k) (toks marks.now) ≡ bounded 64 (want_else d v e b k) (toks rest.now)) }
+        (bounded 64 (more_if d v e b k) (toks marks.now)
+        ≡ bounded 64 (k (alone v e b)) (toks marks.now))
+        (λ rest. bounded 64 (more_if d v e b k) (toks marks.now)
+        ≡ bounded 64 (want_else d v e b k) (toks rest.now)) }
 {
     let (_, rest) = word_behind(marks, Word::Else)?;
     Some(rest)
@@ -110,8 +118,10 @@ pub(crate) fn else_first(marks: Marks, depth: u32) -> Result<(ElseStart, Marks),
     requires { depth ≤ 64 }
     ensures within { IfOk result (λ x. IsWithin depth x.0) }
     ensures no_longer { IfOk result (λ x. length x.1.now ≤ length marks.now) }
-    ensures reads { (d : ℕ) → d ≡ depth → (v : SpanValue) (e : ExprTree) (b : BlockTree) (k : StmtTree → State)
-        → Gives result (bounded 64 (want_else d v e b k) (toks marks.now)) (λ x. bounded 64 (else_next d v e b k x.0) (toks x.1.now)) }
+    ensures reads { (d : ℕ) → d ≡ depth
+        → (v : SpanValue) (e : ExprTree) (b : BlockTree) (k : StmtTree → State)
+        → Gives result (bounded 64 (want_else d v e b k) (toks marks.now))
+        (λ x. bounded 64 (else_next d v e b k x.0) (toks x.1.now)) }
 {
     let Some((span, rest)) = word_behind(marks, Word::If) else {
         return Ok((ElseStart::Block, marks));

@@ -49,7 +49,8 @@ pub(crate) fn read_block(alloc: Global, marks: Marks, depth: u32) -> Result<(Blo
     requires { depth ≤ 64 }
     ensures shorter { IfOk result (λ x. length x.1.now < length marks.now) }
     ensures reads { (d : ℕ) → d ≡ depth → (k : BlockTree → State)
-        → Gives result (bounded 64 (want_block d k) (toks marks.now)) (λ x. bounded 64 (k (block_view x.0)) (toks x.1.now)) }
+        → Gives result (bounded 64 (want_block d k) (toks marks.now))
+        (λ x. bounded 64 (k (block_view x.0)) (toks x.1.now)) }
 {
     let (open, inside) = symbol(marks, Symbol::OpenBrace, depth)?;
     let (stmts, after) = read_stmts(alloc, inside, depth + 1)?;
@@ -64,7 +65,8 @@ fn read_stmts(alloc: Global, marks: Marks, depth: u32) -> Result<(List<StmtNode>
     requires { depth ≤ 65 }
     ensures no_longer { IfOk result (λ x. length x.1.now ≤ length marks.now) }
     ensures reads { (d : ℕ) → d ≡ depth → (k : Items StmtTree → State)
-        → Gives result (bounded 64 (in_stmts d [] k) (toks marks.now)) (λ x. bounded 64 (k (map stmt_view x.0)) (toks x.1.now)) }
+        → Gives result (bounded 64 (in_stmts d [] k) (toks marks.now))
+        (λ x. bounded 64 (k (map stmt_view x.0)) (toks x.1.now)) }
 {
     let mut stmts = List::new(alloc);
     let Some((start, span, after)) = stmt_sign(marks) else {
@@ -94,7 +96,8 @@ fn read_next_stmt<'a>(
     requires { depth ≤ 65 }
     ensures shorter { IfOk result (λ x. length x.1.now < length marks.now) }
     ensures reads { (d : ℕ) → d ≡ depth → (k : StmtTree → State) (s : State) (ts : Items Tok)
-        → length ts ≡ suc (length marks.now) → Moves d s ts (stmt_next d k start_span start.entry) (toks marks.now)
+        → length ts ≡ suc (length marks.now)
+        → Moves d s ts (stmt_next d k start_span start.entry) (toks marks.now)
         → Gives result (bounded 64 s ts) (λ x. bounded 64 (k (stmt_view x.0)) (toks x.1.now)) }
 {
     if depth > MAX_DEPTH {
@@ -115,7 +118,8 @@ fn read_stmt<'a>(
     requires { depth ≤ 64 }
     ensures shorter { IfOk result (λ x. length x.1.now < length marks.now) }
     ensures reads { (d : ℕ) → d ≡ depth → (k : StmtTree → State)
-        → Gives result (bounded 64 (stmt_next d k start_span start.entry) (toks marks.now)) (λ x. bounded 64 (k (stmt_view x.0)) (toks x.1.now)) }
+        → Gives result (bounded 64 (stmt_next d k start_span start.entry) (toks marks.now))
+        (λ x. bounded 64 (k (stmt_view x.0)) (toks x.1.now)) }
 {
     match start {
         StmtStart::Name(bytes) => {
@@ -145,7 +149,8 @@ fn read_if(alloc: Global, start: Span, marks: Marks, depth: u32) -> Result<(Stmt
     requires { depth ≤ 64 }
     ensures shorter { IfOk result (λ x. length x.1.now < length marks.now) }
     ensures reads { (d : ℕ) → d ≡ depth → (k : StmtTree → State)
-        → Gives result (bounded 64 (in_if d start k) (toks marks.now)) (λ x. bounded 64 (k (stmt_view x.0)) (toks x.1.now)) }
+        → Gives result (bounded 64 (in_if d start k) (toks marks.now))
+        (λ x. bounded 64 (k (stmt_view x.0)) (toks x.1.now)) }
 {
     let (condition, _extent, _close, after) = read_parens(alloc, marks, depth)?;
     let (body, after) = read_block(alloc, after, depth)?;
@@ -163,8 +168,11 @@ fn read_if(alloc: Global, start: Span, marks: Marks, depth: u32) -> Result<(Stmt
 fn read_else(alloc: Global, marks: Marks, depth: u32) -> Result<(ElseNode, Span, Marks), Fault>
     requires { depth ≤ 64 }
     ensures shorter { IfOk result (λ x. length x.2.now < length marks.now) }
-    ensures reads { (d : ℕ) → d ≡ depth → (v : SpanValue) (e : ExprTree) (b : BlockTree) (k : StmtTree → State)
-        → Gives result (bounded 64 (want_else d v e b k) (toks marks.now)) (λ x. bounded 64 (k (StmtTree.node (join_spans v x.1) (StmtForm.if_ e b (else_view x.0)))) (toks x.2.now)) }
+    ensures reads { (d : ℕ) → d ≡ depth
+        → (v : SpanValue) (e : ExprTree) (b : BlockTree) (k : StmtTree → State)
+        → Gives result (bounded 64 (want_else d v e b k) (toks marks.now))
+        (λ x. bounded 64 (k (StmtTree.node (join_spans v x.1) (StmtForm.if_ e b (else_view x.0))))
+        (toks x.2.now)) }
 {
     let (start, rest) = else_first(marks, depth)?;
     match start {
@@ -192,7 +200,8 @@ fn read_match(
     requires { depth ≤ 64 }
     ensures shorter { IfOk result (λ x. length x.1.now < length marks.now) }
     ensures reads { (d : ℕ) → d ≡ depth → (k : StmtTree → State)
-        → Gives result (bounded 64 (in_match d start k) (toks marks.now)) (λ x. bounded 64 (k (stmt_view x.0)) (toks x.1.now)) }
+        → Gives result (bounded 64 (in_match d start k) (toks marks.now))
+        (λ x. bounded 64 (k (stmt_view x.0)) (toks x.1.now)) }
 {
     let (value, _extent, _close, after) = read_parens(alloc, marks, depth)?;
     let (_, inside) = symbol(after, Symbol::OpenBrace, depth)?;
@@ -208,7 +217,8 @@ fn read_arms(alloc: Global, marks: Marks, depth: u32) -> Result<(List<BlockArm>,
     requires { depth ≤ 65 }
     ensures no_longer { IfOk result (λ x. length x.1.now ≤ length marks.now) }
     ensures reads { (d : ℕ) → d ≡ depth → (k : Items BlockArmTree → State)
-        → Gives result (bounded 64 (in_block_arms d [] k) (toks marks.now)) (λ x. bounded 64 (k (map block_arm_view x.0)) (toks x.1.now)) }
+        → Gives result (bounded 64 (in_block_arms d [] k) (toks marks.now))
+        (λ x. bounded 64 (k (map block_arm_view x.0)) (toks x.1.now)) }
 {
     let mut arms = List::new(alloc);
     let Some((con, span, after)) = arm_sign(marks) else {
@@ -238,7 +248,8 @@ fn read_next_arm<'a>(
     requires { depth ≤ 65 }
     ensures shorter { IfOk result (λ x. length x.1.now < length marks.now) }
     ensures reads { (d : ℕ) → d ≡ depth → (k : BlockArmTree → State) (s : State) (ts : Items Tok)
-        → length ts ≡ suc (length marks.now) → Moves d s ts (in_arm d (ident_tree con.now con_span) k) (toks marks.now)
+        → length ts ≡ suc (length marks.now)
+        → Moves d s ts (in_arm d (ident_tree con.now con_span) k) (toks marks.now)
         → Gives result (bounded 64 s ts) (λ x. bounded 64 (k (block_arm_view x.0)) (toks x.1.now)) }
 {
     if depth > MAX_DEPTH {
@@ -254,7 +265,8 @@ fn read_arm(alloc: Global, con: Ident, marks: Marks, depth: u32) -> Result<(Bloc
     requires { depth ≤ 64 }
     ensures shorter { IfOk result (λ x. length x.1.now < length marks.now) }
     ensures reads { (d : ℕ) → d ≡ depth → (k : BlockArmTree → State)
-        → Gives result (bounded 64 (in_arm d (ident_view con) k) (toks marks.now)) (λ x. bounded 64 (k (block_arm_view x.0)) (toks x.1.now)) }
+        → Gives result (bounded 64 (in_arm d (ident_view con) k) (toks marks.now))
+        (λ x. bounded 64 (k (block_arm_view x.0)) (toks x.1.now)) }
 {
     let (pattern, after) = read_variables(alloc, con, marks, depth)?;
     let (_, after) = symbol(after, Symbol::Arrow, depth)?;

@@ -50,9 +50,12 @@ pub fn parse(alloc: Global, bytes: &[u8], tokens: &List<Token>) -> Result<Ast, P
     ensures fault { IfErr result (IsFault bytes.now) }
 
     // What is so of the text is answered, unless memory runs out.
-    ensures every_tree { (tree : Items DeclTree) → IsTextWithin 64 bytes.now tree → IsRead tree result }
-    ensures every_bad { (us : Items Tok) (k : ℕ) → HasToks bytes.now us → IsFirstBad 64 us k → IsRefused k result }
-    ensures every_too_deep { (us : Items Tok) (k : ℕ) → HasToks bytes.now us → IsTooDeep 64 us k → IsFoundTooDeep k result }
+    ensures every_tree { (tree : Items DeclTree) → IsTextWithin 64 bytes.now tree
+        → IsRead tree result }
+    ensures every_bad { (us : Items Tok) (k : ℕ) → HasToks bytes.now us → IsFirstBad 64 us k
+        → IsRefused k result }
+    ensures every_too_deep { (us : Items Tok) (k : ℕ) → HasToks bytes.now us → IsTooDeep 64 us k
+        → IsFoundTooDeep k result }
 {
     let marks = marks_of(alloc, bytes, tokens.as_slice())?;
     tree_of_marks(alloc, marks.as_slice())

@@ -40,7 +40,9 @@ pub(crate) fn read_type(alloc: Global, marks: Marks, depth: u32) -> Result<(Type
     requires { depth ≤ 65 }
     ensures shallow { IfOk result (λ _. depth ≤ 64) }
     ensures shorter { IfOk result (λ x. length x.1.now < length marks.now) }
-    ensures reads { (d : ℕ) → d ≡ depth → (k : TypeTree → State) → Gives result (bounded 64 (want_type d k) (toks marks.now)) (λ x. bounded 64 (k (type_view x.0)) (toks x.1.now)) }
+    ensures reads { (d : ℕ) → d ≡ depth → (k : TypeTree → State)
+        → Gives result (bounded 64 (want_type d k) (toks marks.now))
+        (λ x. bounded 64 (k (type_view x.0)) (toks x.1.now)) }
 {
     let (start, start_span, rest) = type_first(marks, depth)?;
     match start {
@@ -64,7 +66,9 @@ fn read_element(
 ) -> Result<(TypeNode, Span, Marks), Fault>
     requires { depth ≤ 64 }
     ensures shorter { IfOk result (λ x. length x.2.now < length marks.now) }
-    ensures reads { (d : ℕ) → d ≡ depth → (k : TypeTree → SpanValue → State) → Gives result (bounded 64 (want_element d start k) (toks marks.now)) (λ x. bounded 64 (k (type_view x.0) x.1) (toks x.2.now)) }
+    ensures reads { (d : ℕ) → d ≡ depth → (k : TypeTree → SpanValue → State)
+        → Gives result (bounded 64 (want_element d start k) (toks marks.now))
+        (λ x. bounded 64 (k (type_view x.0) x.1) (toks x.2.now)) }
 {
     let (_, inside) = symbol(marks, Symbol::OpenBracket, depth)?;
     let (element, after) = read_type(alloc, inside, depth + 1)?;
@@ -76,7 +80,9 @@ pub(crate) fn read_param(alloc: Global, marks: Marks, depth: u32) -> Result<(Par
     requires { depth ≤ 65 }
     ensures shallow { IfOk result (λ _. depth ≤ 64) }
     ensures shorter { IfOk result (λ x. length x.1.now < length marks.now) }
-    ensures reads { (d : ℕ) → d ≡ depth → (k : ParamTree → State) → Gives result (bounded 64 (want_param d k) (toks marks.now)) (λ x. bounded 64 (k (param_view x.0)) (toks x.1.now)) }
+    ensures reads { (d : ℕ) → d ≡ depth → (k : ParamTree → State)
+        → Gives result (bounded 64 (want_param d k) (toks marks.now))
+        (λ x. bounded 64 (k (param_view x.0)) (toks x.1.now)) }
 {
     let (name, after) = name(alloc, marks, depth)?;
     let (_, after) = symbol(after, Symbol::Colon, depth)?;
@@ -93,7 +99,9 @@ pub(crate) fn read_params(
     requires { depth ≤ 65 }
     ensures shallow { IfOk result (λ _. depth ≤ 64) }
     ensures shorter { IfOk result (λ x. length x.1.now < length marks.now) }
-    ensures reads { (d : ℕ) → d ≡ depth → (k : Items ParamTree → State) → Gives result (bounded 64 (want_params d k) (toks marks.now)) (λ x. bounded 64 (k (map param_view x.0)) (toks x.1.now)) }
+    ensures reads { (d : ℕ) → d ≡ depth → (k : Items ParamTree → State)
+        → Gives result (bounded 64 (want_params d k) (toks marks.now))
+        (λ x. bounded 64 (k (map param_view x.0)) (toks x.1.now)) }
 {
     let mut params = List::new(alloc);
     let (first, mut rest) = read_param(alloc, marks, depth)?;
@@ -116,7 +124,9 @@ pub(crate) fn read_param_list(
 ) -> Result<(List<Param>, Marks), Fault>
     requires { depth ≤ 64 }
     ensures shorter { IfOk result (λ x. length x.1.now < length marks.now) }
-    ensures reads { (d : ℕ) → d ≡ depth → (k : Items ParamTree → State) → Gives result (bounded 64 (want_param_list d k) (toks marks.now)) (λ x. bounded 64 (k (map param_view x.0)) (toks x.1.now)) }
+    ensures reads { (d : ℕ) → d ≡ depth → (k : Items ParamTree → State)
+        → Gives result (bounded 64 (want_param_list d k) (toks marks.now))
+        (λ x. bounded 64 (k (map param_view x.0)) (toks x.1.now)) }
 {
     let (_, inside) = symbol(marks, Symbol::OpenParen, depth)?;
     if let Some((_, end)) = optional(inside, Symbol::CloseParen, depth) {
@@ -145,7 +155,8 @@ fn map_type(
     key: TypeNode,
     value: CrdtNode,
 ) -> Result<CrdtNode, Memory>
-    ensures { IfOk result (λ c. crdt_view c ≡ CrdtTree.node span (map_form kind (type_view key) (crdt_view value))) }
+    ensures { IfOk result (λ c. crdt_view c
+        ≡ CrdtTree.node span (map_form kind (type_view key) (crdt_view value))) }
 {
     match kind {
         MapKind::UpdateWins => crdt::map_uw(alloc, span, key, value),
@@ -158,7 +169,9 @@ pub(crate) fn read_crdt(alloc: Global, marks: Marks, depth: u32) -> Result<(Crdt
     requires { depth ≤ 65 }
     ensures shallow { IfOk result (λ _. depth ≤ 64) }
     ensures shorter { IfOk result (λ x. length x.1.now < length marks.now) }
-    ensures reads { (d : ℕ) → d ≡ depth → (k : CrdtTree → State) → Gives result (bounded 64 (want_crdt d k) (toks marks.now)) (λ x. bounded 64 (k (crdt_view x.0)) (toks x.1.now)) }
+    ensures reads { (d : ℕ) → d ≡ depth → (k : CrdtTree → State)
+        → Gives result (bounded 64 (want_crdt d k) (toks marks.now))
+        (λ x. bounded 64 (k (crdt_view x.0)) (toks x.1.now)) }
 {
     let (start, start_span, rest) = crdt_first(marks, depth)?;
     match start {
@@ -191,7 +204,9 @@ fn read_fields(alloc: Global, marks: Marks, depth: u32) -> Result<(List<FieldNod
     requires { depth ≤ 65 }
     ensures shallow { IfOk result (λ _. depth ≤ 64) }
     ensures shorter { IfOk result (λ x. length x.1.now < length marks.now) }
-    ensures reads { (d : ℕ) → d ≡ depth → (k : Items FieldTree → State) → Gives result (bounded 64 (want_field d (λ f. more_fields d (f ∷ []) k)) (toks marks.now)) (λ x. bounded 64 (k (map field_view x.0)) (toks x.1.now)) }
+    ensures reads { (d : ℕ) → d ≡ depth → (k : Items FieldTree → State)
+        → Gives result (bounded 64 (want_field d (λ f. more_fields d (f ∷ []) k)) (toks marks.now))
+        (λ x. bounded 64 (k (map field_view x.0)) (toks x.1.now)) }
 {
     let mut fields = List::new(alloc);
     let (first, mut rest) = read_field(alloc, marks, depth)?;
@@ -211,7 +226,9 @@ fn read_field(alloc: Global, marks: Marks, depth: u32) -> Result<(FieldNode, Mar
     requires { depth ≤ 65 }
     ensures shallow { IfOk result (λ _. depth ≤ 64) }
     ensures shorter { IfOk result (λ x. length x.1.now < length marks.now) }
-    ensures reads { (d : ℕ) → d ≡ depth → (k : FieldTree → State) → Gives result (bounded 64 (want_field d k) (toks marks.now)) (λ x. bounded 64 (k (field_view x.0)) (toks x.1.now)) }
+    ensures reads { (d : ℕ) → d ≡ depth → (k : FieldTree → State)
+        → Gives result (bounded 64 (want_field d k) (toks marks.now))
+        (λ x. bounded 64 (k (field_view x.0)) (toks x.1.now)) }
 {
     let (name, after) = name(alloc, marks, depth)?;
     let (_, after) = symbol(after, Symbol::Colon, depth)?;
