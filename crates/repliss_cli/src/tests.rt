@@ -1,7 +1,12 @@
 use crate::report::Status;
 use crate::top::run;
+use rp_ast::print;
 use rp_io::{MemFiles, MemSink};
+use rp_lexer::lex;
+use rp_parser::parse;
+use rp_value::Memory;
 use std::alloc::{AllocError, Global};
+use std::process::Abort;
 use std::test::Fail;
 
 /// Room for every output of these tests.
@@ -171,6 +176,63 @@ fn refuses_what_passes_a_number(rt: HostRuntime) -> Result<(), Fail> {
         assert!(rt;
             first_line_is(alloc, text, status, line)?,
             "{times} times {part}"
+        );
+    }
+    Ok(())
+}
+
+/// Programs in their printed form, one a line, with each form of declaration, statement and expression.
+const PRINTED: &str = r#"idtype U ;
+type V ;
+datatype D = c | d ( x : Int , y : Maybe [ U ] ) ;
+crdt s : SetAw [ U ] ;
+crdt r : { a : SetRw [ V ] , b : Reg [ String ] , k : MvReg [ Bool ] } ;
+crdt m : MapUw [ U , MapDw [ Int , Counter ] ] ;
+query q ( u : U , k : call , i : invocation ) : Bool = s . contains ( u ) ;
+query z ( ) : Int = m [ u ] [ ( 1 + 2 ) ] . get ( ) ;
+invariant true ;
+invariant n : forall u : U :: exists v : V :: ( a == 1 ) ==> ( ( ! b ) || ( c && false ) ) ;
+invariant ( ( a + 1 ) - 2 ) <= ( - 3 ) ;
+invariant a ==> ( b ==> c ) ;
+invariant ( a ==> b ) ==> c ;
+invariant ! ( forall u : U :: ! u ) ;
+invariant ! ( a && b && c ) ;
+invariant ( a || b ) && ( a || b || c ) ;
+invariant ( x < y ) || ( x > y ) || ( x >= y ) || ( x != y ) ;
+invariant a . b . returned . k [ 0 ] ( x , - 1 , ( ! y ) ) ;
+invariant x == "a \"quoted\" \\ and a line\n" ;
+invariant ( none == some ( x ) ) && ( unreturned == result ( i ) ) ;
+invariant ( op ( k ) == tx ) && visible ( k ) && before ( k , l ) && same ( k , l ) ;
+invariant ( origin ( k ) == info ( i ) ) || false ;
+invariant match ( e ) { none => 1 , some ( x ) => ( x + 1 ) , d ( x , y ) => - 1 } ;
+proc p ( ) { }
+proc p ( b : Bool , t : String ) : Maybe [ Int ] { return none ; }
+proc p ( ) { var x : Int ; var y : Int = - 1 ; x = new U ; y = x + 1 ; s . add ( y ) ; }
+proc p ( ) { if ( ! b ) { } else if ( b && c ) { return ; } else { assert b ; } }
+proc p ( ) { if ( b ) { atomic { } } else { } }
+proc p ( ) { match ( e + 1 ) { none => { } some ( x ) => { return x > 1 ; } true => { } } }"#;
+
+/// Whether the tree of a text prints as the text.
+fn prints_as_written(rt: &impl Abort, alloc: Global, text: &[u8]) -> bool {
+    assert!(rt; text.len() <= 262_144);
+    let Ok(tokens) = lex(alloc, text) else {
+        return false;
+    };
+    let Ok(ast) = parse(alloc, text, &tokens) else {
+        return false;
+    };
+    match print(alloc, &ast) {
+        Ok(printed) => printed.as_slice().strip_suffix(b"\n") == Some(text),
+        Err(Memory) => false,
+    }
+}
+
+#[test]
+fn what_is_printed_reads_back(rt: HostRuntime) -> Result<(), Fail> {
+    for line in PRINTED.split('\n') {
+        assert!(rt;
+            prints_as_written(&rt, rt.alloc(), line.as_bytes()),
+            "{line}"
         );
     }
     Ok(())
