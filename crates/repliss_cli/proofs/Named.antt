@@ -9,7 +9,7 @@ use Rattle.rp_verify.specs.Verdicts.{name_of, unproved_from, unproved}
 use Rattle.rp_verify.specs.declared.verdict.Unproved.{Unproved}
 use Rattle.repliss_cli.specs.declared.report.GoalLine.{GoalLine}
 use Rattle.repliss_cli.specs.FirstText.{IsFirstText}
-use Rattle.repliss_cli.specs.Answers.{line_of, NameFalse, no_goal, false_goal, other_goal, IsUnproved}
+use Rattle.repliss_cli.specs.Answers.{NameFalse, no_goal, false_goal, other_goal, IsUnproved}
 use Rattle.repliss_cli.specs.Lines.{line_for}
 
 -- a test of each goal tells whether it is false

@@ -1,5 +1,5 @@
 -- A text has one report: what it reads as and what its program is decide it.
-use Rattle.std.proofs.Common.{◌≡◌, ℕ, ◌+◌, ◌<◌, ◌≤◌, Bool, true, false, ◌&&◌, ◌==◌, nat_le, IsTrue, List, [], ◌∷◌, length, All, refl, sym, ap, subst, ◌∙◌, arith}
+use Rattle.std.proofs.Common.{◌≡◌, ℕ, ◌≤◌, Bool, true, false, ◌&&◌, ◌==◌, nat_le, IsTrue, List, [], ◌∷◌, length, All, refl, sym, ap, subst, arith}
 use Rattle.std.specs.List.{list_all}
 use Rattle.std.proofs.lemmas.List.Elements.{All-nil, All-cons, All-head, All-tail}
 use Rattle.rp_span.specs.Places.{place_of}
@@ -19,8 +19,8 @@ use Rattle.repliss_cli.specs.declared.report.GoalLine.{GoalLine}
 use Rattle.repliss_cli.specs.declared.report.Report.{Report}
 use Rattle.repliss_cli.specs.declared.report.Report.TheVariants.{Verified, Unproved, Usage, ProgramBytes, Lex, Syntax, Depth, NotYet}
 use Rattle.repliss_cli.specs.FirstText.{IsFirstText}
-use Rattle.repliss_cli.specs.Answers.{line_of, NameFalse, no_goal, false_goal, other_goal, IsVerified, IsUnproved, IsLexFault, IsSyntaxFault, IsTooDeepText, IsOtherText, IsReportOf}
-use Rattle.repliss_cli.proofs.Readings.{Reading, too_long, faulty, bad, too_deep, tree, Reads, reads_too_long, reads_faulty, reads_bad, reads_too_deep, reads_tree, one_tree, one_reading}
+use Rattle.repliss_cli.specs.Answers.{line_of, NameFalse, no_goal, false_goal, other_goal, IsReportOf}
+use Rattle.repliss_cli.proofs.Readings.{Reading, too_long, faulty, bad, too_deep, tree, Reads, reads_too_long, reads_faulty, reads_bad, reads_too_deep, reads_tree, one_reading}
 
 -- a tree is one program
 abbrev pub OneProgram : Type 0

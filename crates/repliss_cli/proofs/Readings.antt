@@ -1,10 +1,10 @@
 -- How a text reads: it is too long, or it has a fault, or a tree. Each text reads in one way.
-use Rattle.std.proofs.Common.{◌≡◌, ℕ, zero, suc, ◌+◌, ◌<◌, ◌≤◌, List, [], ◌∷◌, length, Some, slice_get, refl, sym, ap, subst, ◌∙◌, arith, ◌⊎◌, inl, inr}
+use Rattle.std.proofs.Common.{◌≡◌, ℕ, zero, suc, ◌<◌, ◌≤◌, List, [], ◌∷◌, length, Some, slice_get, refl, sym, ap, subst, ◌∙◌, arith, ◌⊎◌, inl, inr}
 use Rattle.std.proofs.Math.Decide.{dec_le}
 use Rattle.rp_grammar.specs.declared.LexFault.{LexFault}
 use Rattle.rp_grammar.specs.declared.Token.{Token}
 use Rattle.rp_grammar.specs.Lexed.{Lexed, Faulty}
-use Rattle.rp_grammar.specs.Terminals.{Terminal, Tok, at}
+use Rattle.rp_grammar.specs.Terminals.{Tok, at}
 use Rattle.rp_grammar.specs.Trees.{DeclTree}
 use Rattle.rp_grammar.specs.Begins.{IsTree, IsTreeWithin, IsFirstBad, IsTooDeep}
 use Rattle.rp_grammar.specs.Texts.{HasToks, IsTextWithin, StandsAt, IsBadAt, IsTooDeepAt}

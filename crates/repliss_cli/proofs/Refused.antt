@@ -1,13 +1,11 @@
 -- Refusals of a text, from what its tokens and its tree are.
-use Rattle.std.proofs.Common.{◌≡◌, ℕ, zero, suc, ◌+◌, ◌<◌, ◌≤◌, List, [], ◌∷◌, length, Option, None, Some, slice_get, All, refl, sym, ap, subst, ◌∙◌, arith, ◌⊎◌, inl, inr}
+use Rattle.std.proofs.Common.{◌≡◌, ℕ, zero, suc, ◌<◌, ◌≤◌, List, [], ◌∷◌, length, Option, None, Some, slice_get, All, refl, sym, ap, subst, arith}
 use Rattle.std.specs.Option.{IfNone}
 use Rattle.std.proofs.lemmas.List.Elements.{All-head, All-tail}
-use Rattle.rp_span.specs.declared.Span.{Span}
-use Rattle.rp_span.specs.declared.Pos.{Pos}
 use Rattle.rp_span.specs.Places.{place_of}
 use Rattle.rp_grammar.specs.declared.Token.{Token}
 use Rattle.rp_grammar.specs.Lexed.{Lexed}
-use Rattle.rp_grammar.specs.Terminals.{Terminal, Tok, at}
+use Rattle.rp_grammar.specs.Terminals.{Tok}
 use Rattle.rp_grammar.specs.Toks.{ToksOf}
 use Rattle.rp_grammar.specs.Toks as toks
 use Rattle.rp_grammar.specs.Trees.{DeclTree}

@@ -1,5 +1,5 @@
 -- A text has exactly one report.
-use Rattle.std.proofs.Common.{◌≡◌, ℕ, Bool, true, false, IsTrue, List, Option, Some, None, ◌⊎◌, inl, inr, refl, subst, sym}
+use Rattle.std.proofs.Common.{◌≡◌, ℕ, Bool, true, false, IsTrue, List, Option, Some, None, ◌⊎◌, inl, inr, refl}
 use Rattle.rp_grammar.specs.Trees.{DeclTree}
 use Rattle.rp_lang.specs.FirstForm.{over_truth_values, are_over_truth_values}
 use Rattle.rp_lang.specs.Programs.{Proc, Prog}

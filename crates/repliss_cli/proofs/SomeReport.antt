@@ -1,18 +1,18 @@
 -- Each text has some report.
-use Rattle.std.proofs.Common.{◌≡◌, ℕ, ◌+◌, ◌<◌, ◌≤◌, List, [], ◌∷◌, map, length, All, refl, sym, ap, subst, ◌∙◌, arith, ◌⊎◌, inl, inr}
+use Rattle.std.proofs.Common.{◌≡◌, ℕ, ◌≤◌, List, [], ◌∷◌, map, length, All, refl, sym, subst, ◌∙◌, ◌⊎◌, inl, inr}
 use Rattle.std.proofs.Math.Decide.{dec_le}
 use Rattle.std.proofs.lemmas.List.Elements.{All-nil, All-cons, All-head, All-tail}
 use Rattle.rp_span.specs.Places.{place_of}
 use Rattle.rp_grammar.specs.Trees.{DeclTree}
 use Rattle.rp_lang.specs.Programs.{Proc, Prog}
-use Rattle.event_machine.specs.Goals.{Goal, goals}
+use Rattle.event_machine.specs.Goals.{goals}
 use Rattle.event_machine.proofs.TestLemmas as tests
 use Rattle.rp_types.specs.FirstProgram.{IsProgramOf}
 use Rattle.rp_verify.specs.Verdicts.{unproved, proc_paths, HasFewPaths, IsWithinLimits}
 use Rattle.rp_verify.specs.declared.verdict.Unproved as found
 use Rattle.rp_verify.proofs.SafeFound.{safe_none_found}
 use Rattle.repliss_cli.specs.declared.report.Report.{Report}
-use Rattle.repliss_cli.specs.declared.report.Report.TheVariants.{Verified, Unproved, Usage, ProgramBytes, Lex, Syntax, Depth, NotYet}
+use Rattle.repliss_cli.specs.declared.report.Report.TheVariants.{Verified, Unproved, ProgramBytes, Lex, Syntax, Depth, NotYet}
 use Rattle.repliss_cli.specs.FirstText.{IsFirstText}
 use Rattle.repliss_cli.specs.Answers.{IsReportOf}
 use Rattle.repliss_cli.specs.Lines.{line_for}

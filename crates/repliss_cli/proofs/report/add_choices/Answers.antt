@@ -1,4 +1,4 @@
-use Rattle.std.proofs.Common.{arith, refl}
+use Rattle.std.proofs.Common.{arith}
 use Rattle.repliss_cli.specs.Texts.{choice_text}
 use Rattle.repliss_cli.proofs.Growing.{piece_more}
 use Rattle.repliss_cli.proofs.report.add_choices.Goals as goal
