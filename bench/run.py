@@ -22,15 +22,6 @@ def median_ms(words, runs):
     return sorted(times)[runs // 2], done.stdout.decode().splitlines()
 
 
-def peak_kb(words):
-    """The greatest memory of a run, in KiB, as the system counts it."""
-    child = os.posix_spawn(
-        words[0], words, os.environ, file_actions=[(os.POSIX_SPAWN_OPEN, 1, os.devnull, os.O_WRONLY, 0)]
-    )
-    _, _, used = os.wait4(child, 0)
-    return used.ru_maxrss
-
-
 def long_expressions():
     """Up to 262,144 bytes of procedures with three parameters and long expressions, at most 64 procedures."""
     part = "(a ==> b || c) && !(a && !b && !c) || "
@@ -73,11 +64,35 @@ def names():
     return filled("a ")
 
 
-def empty_c_program(folder):
-    source = os.path.join(folder, "empty.c")
-    program = os.path.join(folder, "empty")
+# Runs a command with its output thrown away, and prints the greatest memory that the system counted, in KiB.
+# A program of its own, since a process starts with the count of the one that began it.
+PEAK = """
+#include <fcntl.h>
+#include <stdio.h>
+#include <sys/resource.h>
+#include <sys/wait.h>
+#include <unistd.h>
+int main(int count, char **words) {
+  struct rusage used;
+  int status;
+  pid_t child = fork();
+  if (child == 0) {
+    dup2(open("/dev/null", O_WRONLY), 1);
+    execv(words[1], words + 1);
+    _exit(127);
+  }
+  wait4(child, &status, 0, &used);
+  printf("%ld\\n", used.ru_maxrss);
+  return count == 0;
+}
+"""
+
+
+def c_program(folder, name, text):
+    source = os.path.join(folder, f"{name}.c")
+    program = os.path.join(folder, name)
     with open(source, "w", encoding="ascii") as file:
-        file.write("int main(void) { return 0; }\n")
+        file.write(text)
     subprocess.run(["cc", "-O2", "-o", program, source], check=True)
     return program
 
@@ -86,7 +101,8 @@ def main():
     if not os.path.exists(PROGRAM):
         sys.exit("build the program first: ./repliss verify examples/tautology.rpl")
     with tempfile.TemporaryDirectory() as folder:
-        rows = [("an empty C program", [empty_c_program(folder)], 0)]
+        rows = [("an empty C program", [c_program(folder, "empty", "int main(void) { return 0; }\n")], 0)]
+        peak = c_program(folder, "peak", PEAK)
         texts = [
             ("the first example", "proc p(b: Bool) { assert b || !b; }\n"),
             ("long expressions", long_expressions()),
@@ -103,7 +119,8 @@ def main():
         for what, words, size in rows:
             ms, printed = median_ms(words, 21)
             speed = f"{size / ms / 1000:.1f} MB/s" if size else "-"
-            print(f"{what}: {ms:.2f} ms, {size} bytes, {speed}, {peak_kb(words)} KiB, {printed[0] if printed else '-'}")
+            memory = subprocess.run([peak, *words], stdout=subprocess.PIPE, check=True).stdout.decode().strip()
+            print(f"{what}: {ms:.2f} ms, {size} bytes, {speed}, {memory} KiB, {printed[0] if printed else '-'}")
 
 
 if __name__ == "__main__":
