@@ -3,8 +3,19 @@
 
 mod atom;
 mod formula;
+mod kept;
+mod laws;
+mod negation;
+mod sig;
+mod sort;
+mod substitution;
 mod term;
 
 pub use atom::Atom;
 pub use formula::{Fml, copy_formulas};
+pub use laws::{dual_is_the_denial, instance_means_its_body, truth_is_classical, worked_rows};
+pub use negation::negate;
+pub use sig::Sig;
+pub use sort::{FnDecl, LogicCon, NewConst, Sort};
+pub use substitution::substitute;
 pub use term::{Term, copy_terms, same_terms};

@@ -1,0 +1,12 @@
+pub mod Dual
+pub mod Elements
+pub mod Formulas
+pub mod Instance
+pub mod Rows
+pub mod Signatures
+pub mod SigView
+pub mod Sorted
+pub mod Structures
+pub mod Terms
+pub mod Truth
+pub mod Views
