@@ -20,7 +20,9 @@ impl Atom {
     {
         match (self, other) {
             (Atom::Equal(a, b), Atom::Equal(c, d)) => a.same(c) && b.same(d),
-            (Atom::Le { a, b, k }, Atom::Le { a: c, b: d, k: l }) => k == l && a.same(c) && b.same(d),
+            (Atom::Le { a, b, k }, Atom::Le { a: c, b: d, k: l }) => k == l
+                && a.same(c)
+                && b.same(d),
             (Atom::Rel(r, a), Atom::Rel(s, b)) => r == s && same_terms(a.as_slice(), b.as_slice()),
             _ => false,
         }

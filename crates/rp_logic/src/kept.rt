@@ -7,7 +7,13 @@ use crate::sort::{FnDecl, LogicCon, Sort};
 use rp_value::List;
 
 /// Whether a signature of these parts keeps what each keeps.
-pub fn is_signature(sorts: &[Sort], consts: &[u32], fns: &[FnDecl], rels: &[List<u32>], cons: &[LogicCon]) -> bool
+pub fn is_signature(
+    sorts: &[Sort],
+    consts: &[u32],
+    fns: &[FnDecl],
+    rels: &[List<u32>],
+    cons: &[LogicCon],
+) -> bool
     ensures { result ≡ spec.is_signature sorts.now consts.now fns.now rels.now cons.now }
 {
     are_of_sorts(sorts.len(), consts, fns, rels, cons)
@@ -16,7 +22,13 @@ pub fn is_signature(sorts: &[Sort], consts: &[u32], fns: &[FnDecl], rels: &[List
         && are_listed(sorts, cons)
 }
 
-fn are_of_sorts(sorts: usize, consts: &[u32], fns: &[FnDecl], rels: &[List<u32>], cons: &[LogicCon]) -> bool
+fn are_of_sorts(
+    sorts: usize,
+    consts: &[u32],
+    fns: &[FnDecl],
+    rels: &[List<u32>],
+    cons: &[LogicCon],
+) -> bool
     ensures { result ≡ spec.are_of_sorts sorts consts.now fns.now rels.now cons.now }
 {
     are_below(sorts, consts)
