@@ -4,4 +4,7 @@ pub mod InstanceLaws
 pub mod KeptLaws
 pub mod ListViews
 pub mod RowLaws
+pub mod ScopeViews
+pub mod SortLaws
 pub mod TermViews
+pub mod ValueSorts

@@ -12,9 +12,12 @@ pub record Meaning : Type 0 where
   pub structure : Structure
   pub consts : ℕ → Elem
 
+abbrev pub meaning_with : Signature → Structure → (ℕ → Elem) → Meaning
+meaning_with S M consts = record { sig = S; structure = M; consts = consts }
+
 -- with the structure's own constants
 abbrev pub meaning : Signature → Structure → Meaning
-meaning S M = record { sig = S; structure = M; consts = own_consts M }
+meaning S M = meaning_with S M (own_consts M)
 
 -- # Terms and atoms, at the elements of the open variables, the innermost first
 
