@@ -1,11 +1,8 @@
 -- The worked rows hold.
-use Rattle.std.proofs.Common.{◌≡◌, ◌<◌, ℕ, zero, suc, ◌∷◌, [], Bool, true, false, ◌&&◌, cond, Option, Some, None, slice_get, get_or, nat_lt, sym, refl, ◌∙◌, true≢false, arith, ltb-true, ltb}
+use Rattle.std.proofs.Common.{◌≡◌, ◌<◌, ℕ, zero, suc, ◌∷◌, [], Bool, true, false, cond, Some, None, nat_lt, sym, refl, ◌∙◌, true≢false, arith, ltb-true}
 use Rattle.rp_logic.specs.Elements.{Elem, Point, Whole, Text, Made}
-use Rattle.rp_logic.specs.Signatures.{is_plain}
-use Rattle.rp_logic.specs.Structures.{Structure, Is, own_consts, IsStructure}
-use Rattle.rp_logic.specs.Truth.{AllTrue, meaning}
-use Rattle.rp_logic.specs.Rows.{one_sort, both_ways, nothing, EmptySort, SortOfAConstant}
-use Rattle.rp_logic.proofs.InstanceLaws.{and_both}
+use Rattle.rp_logic.specs.Structures.{Is, own_consts}
+use Rattle.rp_logic.specs.Rows.{one_sort, nothing, EmptySort, SortOfAConstant}
 
 no : {A : Type 0} → false ≡ true → A
 no h = absurd (true≢false (sym h))

@@ -1,5 +1,5 @@
 -- The test of sorts is exact, over a signature with at most one sort `Int` and at most one `Str`.
-use Rattle.std.proofs.Common.{◌≡◌, ◌≢◌, ◌<◌, ◌≤◌, ◌+◌, ◌↔◌, ℕ, zero, suc, List, [], ◌∷◌, length, drop, slice_get, Option, Some, None, Bool, true, false, ◌&&◌, cond, eqb, ltb, nat_le, count_by, sym, refl, ap, ◌∙◌, subst, true≢false, arith, eqb-true, eq-eqb, ltb-true, lt-ltb, leb-true}
+use Rattle.std.proofs.Common.{◌≡◌, ◌≢◌, ◌<◌, ◌≤◌, ◌+◌, ◌↔◌, ℕ, zero, suc, List, [], ◌∷◌, length, drop, slice_get, Option, Some, None, Bool, true, false, ◌&&◌, cond, ltb, nat_le, count_by, sym, refl, ap, ◌∙◌, subst, true≢false, arith, eqb-true, ltb-true, lt-ltb, leb-true}
 use Rattle.std.specs.List.{position_from}
 use Rattle.std.specs.Option.{option_or}
 use Rattle.std.proofs.lemmas.List.Sums.{sum_by-cons}
@@ -12,7 +12,7 @@ use Rattle.rp_logic.specs.Terms.{Tm, Var, Const, Fn, Int, Str, Con, Sel, Plus, T
 use Rattle.rp_logic.specs.Formulas.{Fm, And, Or, All, Ex, Lit, Fms, no_fm, also_fm}
 use Rattle.rp_logic.specs.Signatures.{Signature, is_int, is_str, is_con_of, fields_of, are_of_sorts, has_one_int_and_str, list_their_own, are_listed}
 use Rattle.rp_logic.specs.Sorted.{const_sort, is_sort, gives, takes, sort_of_con, has_sort, have_sorts, IsNumber, IsSortedAtom, IsSorted, AreSorted, IsWellSorted}
-use Rattle.rp_logic.specs.SortTests.{int_sort, str_sort, result_of, datatype_of, head_sort, at_sort, at_sorts, have_one_sort, atom_test, sort_test, sort_tests}
+use Rattle.rp_logic.specs.SortTests.{int_sort, str_sort, result_of, datatype_of, head_sort, at_sorts, have_one_sort, atom_test, sort_test, sort_tests}
 use Rattle.rp_logic.specs.declared.sig.Sig.{Sig}
 use Rattle.rp_logic.specs.SigView.{sig_view}
 use Rattle.rp_logic.specs.Views.{term_view, terms_view}

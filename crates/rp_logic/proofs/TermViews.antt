@@ -1,5 +1,5 @@
 -- What each variant of a term or an atom is seen as.
-use Rattle.std.proofs.Common.{◌≡◌, ℕ, ℤ, List, refl, ap, sym, ◌∙◌}
+use Rattle.std.proofs.Common.{◌≡◌, ℕ, ℤ, List, ap, sym, ◌∙◌}
 use Rattle.rp_logic.specs.declared.term.Term.{Term}
 use Rattle.rp_logic.specs.declared.term.Term.TheVariants as made
 use Rattle.rp_logic.specs.declared.term.Term.TheOpen as layer

@@ -1,5 +1,5 @@
 -- A well sorted closed term has an element of its sort for its value.
-use Rattle.std.proofs.Common.{◌≡◌, ℕ, zero, suc, List, [], ◌∷◌, Bool, true, false, cond, eqb, ◌&&◌, refl, subst, slice_get, Option, Some, None, eqb-true}
+use Rattle.std.proofs.Common.{◌≡◌, ℕ, zero, suc, List, [], ◌∷◌, Bool, true, false, cond, eqb, refl, subst, slice_get, Option, Some, None, eqb-true}
 use Rattle.rp_logic.specs.declared.sort.FnDecl.{FnDecl}
 use Rattle.rp_logic.specs.declared.sort.NewConst.{NewConst}
 use Rattle.rp_logic.specs.Terms.{Tm, Tms, Var, Const, Fn, Int, Str, Con, Sel, Plus, no_tm, also_tm, is_closed, are_closed}

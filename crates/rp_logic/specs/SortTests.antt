@@ -1,5 +1,5 @@
 -- Sorts, tested: a term is tested at the only sort that one of its form can have.
-use Rattle.std.specs.Prelude.{ℕ, Bool, true, false, ◌&&◌, nat_lt, List, [], ◌∷◌, length, slice_get, Option, Some, None}
+use Rattle.std.specs.Prelude.{ℕ, Bool, true, false, ◌&&◌, nat_lt, List, ◌∷◌, length, slice_get, Option, Some, None}
 use Rattle.std.specs.List.{position_from}
 use Rattle.rp_logic.specs.declared.sort.FnDecl.{FnDecl}
 use Rattle.rp_logic.specs.declared.sort.LogicCon.{LogicCon}

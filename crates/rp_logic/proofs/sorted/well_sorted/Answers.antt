@@ -1,4 +1,4 @@
-use Rattle.std.proofs.Common.{◌≡◌, [], ◌∙◌, ap}
+use Rattle.std.proofs.Common.{[], ◌∙◌, ap}
 use Rattle.rp_logic.specs.SigView.{sig_view}
 use Rattle.rp_logic.specs.SortTests.{sort_test}
 use Rattle.rp_logic.specs.Views.{formula_view}
