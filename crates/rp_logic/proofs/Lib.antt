@@ -1,0 +1,10 @@
+pub mod DualLaws
+pub mod FormulaViews
+pub mod InstanceLaws
+pub mod KeptLaws
+pub mod ListViews
+pub mod RowLaws
+pub mod ScopeViews
+pub mod SortLaws
+pub mod TermViews
+pub mod ValueSorts

@@ -1,0 +1,14 @@
+pub mod Dual
+pub mod Elements
+pub mod Formulas
+pub mod Instance
+pub mod Rows
+pub mod Scopes
+pub mod Signatures
+pub mod SigView
+pub mod Sorted
+pub mod SortTests
+pub mod Structures
+pub mod Terms
+pub mod Truth
+pub mod Views

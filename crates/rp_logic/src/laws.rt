@@ -1,0 +1,43 @@
+//! Laws of the definitions, as functions with nothing to run.
+ghost use Rattle.std.specs.Prelude.{IsTrue, ℕ, List, [], ◌∷◌};
+ghost use Rattle.rp_logic.specs.Terms.{Tm, is_closed};
+ghost use Rattle.rp_logic.specs.Formulas.{Fm, Or, no_fm, also_fm};
+ghost use Rattle.rp_logic.specs.Signatures.{Signature};
+ghost use Rattle.rp_logic.specs.Sorted.{has_sort};
+ghost use Rattle.rp_logic.specs.Elements.{Elem};
+ghost use Rattle.rp_logic.specs.Structures.{Structure, Fits, Is};
+ghost use Rattle.rp_logic.specs.Instance.{instance};
+ghost use Rattle.rp_logic.specs.Dual.{dual};
+ghost use Rattle.rp_logic.specs.Truth.{Meaning, meaning_with, value, Holds, IsInstance, IsDenial};
+ghost use Rattle.rp_logic.specs.Rows as rows;
+
+use crate::sort::NewConst;
+
+/// A formula that isn't untrue is true, and of a formula and its dual one is.
+pub fn truth_is_classical()
+    ensures stable { (M : Meaning) (vars : List Elem) (f : Fm) → ¬ ¬ Holds M vars f → Holds M vars f }
+    ensures excluded_middle { (M : Meaning) (vars : List Elem) (f : Fm) → Holds M vars (Or (also_fm f (also_fm (dual f) no_fm))) }
+{}
+
+/// The dual of a formula is true exactly where the formula isn't.
+pub fn dual_is_the_denial()
+    ensures { (f : Fm) → IsDenial (dual f) f }
+{}
+
+/// An instance is true exactly where the body is, with the term's value for its outer variable.
+pub fn instance_means_its_body()
+    ensures { (t : Tm) (f : Fm) → IsTrue (is_closed t) → IsInstance (instance t f) t f }
+{}
+
+/// A term that has a sort with no variable open is closed, and its value is an element of the sort.
+pub fn closed_terms_have_values()
+    ensures closed { (S : Signature) (added : List NewConst) (s : ℕ) (t : Tm) → IsTrue (has_sort S added [] s t) → IsTrue (is_closed t) }
+    ensures value { (S : Signature) (M : Structure) (consts : ℕ → Elem) (added : List NewConst) (s : ℕ) (t : Tm)
+        → Fits S M consts added → IsTrue (has_sort S added [] s t) → Is S M s (value (meaning_with S M consts) [] t) }
+{}
+
+/// Sorts may be empty, and those of constants aren't.
+pub fn worked_rows()
+    ensures empty_sort { rows.EmptySort }
+    ensures sort_of_a_constant { rows.SortOfAConstant }
+{}
