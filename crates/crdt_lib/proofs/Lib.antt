@@ -1,0 +1,4 @@
+pub mod BelowLemmas
+pub mod HistoryLemmas
+pub mod ListedLemmas
+pub mod MemberLemmas

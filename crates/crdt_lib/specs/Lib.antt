@@ -1,0 +1,11 @@
+pub mod Atoms
+pub mod Calls
+pub mod Counting
+pub mod Doing
+pub mod Histories
+pub mod Meaning
+pub mod Members
+pub mod Queries
+pub mod Rows
+pub mod SameValues
+pub mod Snapshots

@@ -1,0 +1,90 @@
+ghost use Rattle.std.specs.Prelude.{◌≡◌, ◌<◌, ◌++◌, [], ◌∷◌, length, slice_get, OnOk, OnErr, nat_eq};
+ghost use Rattle.std.specs.List.{list_any};
+ghost use Rattle.std.specs.List.Sorted.{IsStrictlyIncreasing};
+ghost use Rattle.crdt_lib.specs.Calls.{call_view, calls_view};
+ghost use Rattle.crdt_lib.specs.Histories.{IsHistory, MayFollow, before};
+
+use crate::call::CallRec;
+use rp_value::{List, Memory};
+use std::alloc::Global;
+use std::marker::Model;
+
+/// The calls of a store, numbered from 0. A past is made of earlier calls.
+#[derive(Debug, Drop)]
+pub struct History {
+    calls: List<CallRec>,
+}
+
+impl Model for History {
+    ghost use Rattle.std.specs.Prelude.{List};
+    ghost use Rattle.std.specs.Coded.{coded_list};
+    ghost use Rattle.crdt_lib.specs.declared.call.CallRec.{CallRec};
+    ghost use Rattle.crdt_lib.specs.contracts.call.CallRec as call;
+
+    ghost Value = { List CallRec };
+
+    ghost coded = { coded_list call.the_row.coded };
+
+    ghost use Rattle.crdt_lib.specs.Calls.{calls_view};
+    ghost use Rattle.crdt_lib.specs.Histories.{IsHistory};
+
+    ghost view = { λ h. h.calls };
+
+    ghost invariant = { λ h. IsHistory (calls_view h.calls) };
+}
+
+impl History {
+    /// The history without a call. It takes no memory.
+    pub fn new(alloc: Global) -> History
+        ensures { result ≡ [] }
+    {
+        History {
+            calls: List::new(alloc),
+        }
+    }
+
+    pub fn len(&self) -> u32
+        ensures length { result ≡ length self.now }
+        ensures seen { result ≡ length (calls_view self.now) }
+        ensures history { IsHistory (calls_view self.now) }
+    {
+        self.calls.count()
+    }
+
+    pub fn call(&self, c: u32) -> &CallRec
+        requires { c < length self.now }
+        ensures value { slice_get self.now c ≡ Some result.now }
+        ensures seen { slice_get (calls_view self.now) c ≡ Some (call_view result.now) }
+        ensures ascending { IsStrictlyIncreasing result.now.past }
+    {
+        self.calls.get(c as usize)
+    }
+
+    /// Whether c is in the past of d.
+    pub fn before(&self, c: u32, d: u32) -> bool
+        requires { d < length self.now }
+        ensures { result ≡ before (calls_view self.now) c d }
+    {
+        is_listed(self.call(d).past.as_slice(), c)
+    }
+}
+
+impl History {
+    /// Adds a call at the end. On `Memory` it is dropped.
+    pub fn push(&mut self, call: CallRec) -> Result<(), Memory>
+        requires { MayFollow (length self.old) (call_view call) }
+        ensures ok { OnOk result (self.new ≡ self.old ++ call ∷ []) }
+        ensures err { OnErr result (self.new ≡ self.old) }
+    {
+        self.calls.push(call)?;
+        Ok(())
+    }
+}
+
+/// Whether x stands in a strictly ascending list.
+pub(crate) fn is_listed(xs: &[u32], x: u32) -> bool
+    requires { IsStrictlyIncreasing xs.now }
+    ensures { result ≡ list_any (λ b. nat_eq b x) xs.now }
+{
+    xs.binary_search(&x).is_ok()
+}

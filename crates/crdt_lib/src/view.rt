@@ -1,0 +1,48 @@
+ghost use Rattle.std.specs.Prelude.{◌≡◌, ◌<◌, length};
+ghost use Rattle.std.specs.FinSet as set;
+ghost use Rattle.std.specs.List.Sorted.{IsStrictlyIncreasing};
+
+use crate::history::is_listed;
+use rp_value::List;
+
+/// A set of numbers of calls.
+pub trait View {
+    ghost use Rattle.std.specs.Ordering.{nat_cmp};
+
+    ghost calls: { Self → set.FinSet nat_cmp };
+
+    fn has(&self, c: u32) -> bool
+        ensures { result ≡ set.contains (calls self.now) c };
+
+    /// How many calls are in the set.
+    fn size(&self) -> u32
+        ensures { result ≡ set.len (calls self.now) };
+}
+
+/// The calls of a strictly ascending list.
+#[derive(Debug, Drop)]
+pub struct ListView {
+    calls: List<u32>,
+    ghost ascending: { IsStrictlyIncreasing calls },
+}
+
+impl ListView {
+    pub fn new(calls: List<u32>) -> ListView
+        requires { IsStrictlyIncreasing calls }
+        ensures { result.calls ≡ calls }
+    {
+        ListView { calls }
+    }
+}
+
+impl View for ListView {
+    ghost calls = { λ v. set.from_list v.calls };
+
+    fn has(&self, c: u32) -> bool {
+        is_listed(self.calls.as_slice(), c)
+    }
+
+    fn size(&self) -> u32 {
+        self.calls.count()
+    }
+}
