@@ -1,4 +1,9 @@
+pub mod AmountLemmas
 pub mod BelowLemmas
+pub mod BitLemmas
 pub mod HistoryLemmas
 pub mod ListedLemmas
 pub mod MemberLemmas
+pub mod NewestLemmas
+pub mod SameLemmas
+pub mod TypeLemmas

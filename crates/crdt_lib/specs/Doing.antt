@@ -71,13 +71,13 @@ abbrev pub int_of : Option Val → ℤ
 int_of (Some (Int n)) = n
 int_of _ = pos 0
 
+abbrev pub amount_by : OpKind → Option Val → ℤ
+amount_by Increment own = int_of own
+amount_by _ own = pos 0
+
 abbrev pub amount_of : Call → Option OpDecl → ℤ
 amount_of call None = pos 0
 amount_of call (Some op) = amount_by op.kind (slice_get call.args (keys_in op.path))
-  where
-    amount_by : OpKind → Option Val → ℤ
-    amount_by Increment own = int_of own
-    amount_by _ own = pos 0
 
 -- what the call adds to a counter
 abbrev pub amount : List OpDecl → Option Call → ℤ

@@ -5,6 +5,7 @@ pub mod Doing
 pub mod Histories
 pub mod Meaning
 pub mod Members
+pub mod Newest
 pub mod Queries
 pub mod Rows
 pub mod SameValues

@@ -1,10 +1,14 @@
 //! The store: histories of calls, what queries of replicated types answer at a set of calls, and consistent snapshots.
 #![tactic(auto)]
 
+mod answer;
 mod asked;
 mod call;
+mod doing;
 mod history;
 mod laws;
+mod query;
+mod row;
 mod snapshot;
 mod view;
 
@@ -12,5 +16,6 @@ pub use asked::Found;
 pub use call::CallRec;
 pub use history::History;
 pub use laws::{row_11, row_12, row_13, row_32a, row_32b, row_32c, row_32d, row_38};
+pub use query::{holds, query_holds, query_value, value_of};
 pub use snapshot::is_snapshot;
 pub use view::{ListView, View};
