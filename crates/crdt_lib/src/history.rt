@@ -1,13 +1,17 @@
-ghost use Rattle.std.specs.Prelude.{◌≡◌, ◌<◌, ◌++◌, [], ◌∷◌, length, slice_get, OnOk, OnErr, nat_eq};
+ghost use Rattle.std.specs.Prelude.{◌≡◌, ◌↔◌, ◌<◌, ◌++◌, [], ◌∷◌, ℕ, length, slice_get, slice_index, All, EachIndex, IsTrue, OnOk, OnErr, nat_eq};
 ghost use Rattle.std.specs.List.{list_any};
 ghost use Rattle.std.specs.List.Sorted.{IsStrictlyIncreasing};
 ghost use Rattle.crdt_lib.specs.Calls.{call_view, calls_view};
 ghost use Rattle.crdt_lib.specs.Histories.{IsHistory, MayFollow, before};
 
 use crate::call::CallRec;
+use crate::integers::args_fit;
 use rp_value::{List, Memory};
 use std::alloc::Global;
 use std::marker::Model;
+
+/// The greatest number of calls.
+const MOST: u32 = 16_384;
 
 /// The calls of a store, numbered from 0. A past is made of earlier calls.
 #[derive(Debug, Drop)]
@@ -70,6 +74,19 @@ impl History {
 }
 
 impl History {
+    /// Whether the call may be the next one.
+    pub fn accepts(&self, call: &CallRec) -> bool
+        ensures { IsTrue result ↔ MayFollow (length self.now) (call_view call.now) }
+    {
+        if self.len() >= MOST {
+            return false;
+        }
+        if !is_past(call.past.as_slice(), self.len()) {
+            return false;
+        }
+        args_fit(call.args.as_slice())
+    }
+
     /// Adds a call at the end. On `Memory` it is dropped.
     pub fn push(&mut self, call: CallRec) -> Result<(), Memory>
         requires { MayFollow (length self.old) (call_view call) }
@@ -79,6 +96,30 @@ impl History {
         self.calls.push(call)?;
         Ok(())
     }
+}
+
+fn all_below(xs: &[u32], n: u32) -> bool
+    ensures { IsTrue result ↔ EachIndex xs.now (λ k. slice_index xs.now k < n) }
+{
+    xs.iter().all(|x| *x < n)
+}
+
+fn ascends(xs: &[u32]) -> bool
+    ensures { IsTrue result ↔ IsStrictlyIncreasing xs.now }
+{
+    for i in 1..xs.len() {
+        if xs[i - 1] >= xs[i] {
+            return false;
+        }
+    }
+    true
+}
+
+/// Whether the past is one of the first `calls` calls, strictly ascending.
+fn is_past(past: &[u32], calls: u32) -> bool
+    ensures { IsTrue result ↔ (All (λ b. b < calls) past.now × IsStrictlyIncreasing past.now) }
+{
+    all_below(past, calls) && ascends(past)
 }
 
 /// Whether x stands in a strictly ascending list.

@@ -3,9 +3,11 @@
 
 mod answer;
 mod asked;
+mod atoms;
 mod call;
 mod doing;
 mod history;
+mod integers;
 mod laws;
 mod query;
 mod row;
@@ -13,6 +15,7 @@ mod snapshot;
 mod view;
 
 pub use asked::Found;
+pub use atoms::atoms_of;
 pub use call::CallRec;
 pub use history::History;
 pub use laws::{row_11, row_12, row_13, row_32a, row_32b, row_32c, row_32d, row_38};
