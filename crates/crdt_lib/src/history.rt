@@ -104,7 +104,8 @@ fn all_below(xs: &[u32], n: u32) -> bool
     xs.iter().all(|x| *x < n)
 }
 
-fn ascends(xs: &[u32]) -> bool
+/// Whether each number is below the next.
+pub(crate) fn ascends(xs: &[u32]) -> bool
     ensures { IsTrue result ↔ IsStrictlyIncreasing xs.now }
 {
     for i in 1..xs.len() {

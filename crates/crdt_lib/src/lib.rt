@@ -12,6 +12,8 @@ mod laws;
 mod query;
 mod row;
 mod snapshot;
+#[cfg(test)]
+mod tests;
 mod view;
 
 pub use asked::Found;

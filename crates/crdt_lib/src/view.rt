@@ -1,8 +1,8 @@
-ghost use Rattle.std.specs.Prelude.{◌≡◌, ◌<◌, length};
+ghost use Rattle.std.specs.Prelude.{◌≡◌, ◌↔◌, IsTrue};
 ghost use Rattle.std.specs.FinSet as set;
 ghost use Rattle.std.specs.List.Sorted.{IsStrictlyIncreasing};
 
-use crate::history::is_listed;
+use crate::history::{ascends, is_listed};
 use rp_value::List;
 
 /// A set of numbers of calls.
@@ -27,6 +27,13 @@ pub struct ListView {
 }
 
 impl ListView {
+    /// Whether a list of these calls may be a view.
+    pub fn accepts(calls: &[u32]) -> bool
+        ensures { IsTrue result ↔ IsStrictlyIncreasing calls.now }
+    {
+        ascends(calls)
+    }
+
     pub fn new(calls: List<u32>) -> ListView
         requires { IsStrictlyIncreasing calls }
         ensures { result.calls ≡ calls }
