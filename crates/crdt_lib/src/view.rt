@@ -4,6 +4,7 @@ ghost use Rattle.std.specs.List.Sorted.{IsStrictlyIncreasing};
 
 use crate::history::{ascends, is_listed};
 use rp_value::List;
+use std::marker::Model;
 
 /// A set of numbers of calls.
 pub trait View {
@@ -23,7 +24,17 @@ pub trait View {
 #[derive(Debug, Drop)]
 pub struct ListView {
     calls: List<u32>,
-    ghost ascending: { IsStrictlyIncreasing calls },
+}
+
+impl Model for ListView {
+    ghost use Rattle.std.specs.Prelude.{ℕ, List as Items};
+    ghost use Rattle.std.specs.List.Sorted.{IsStrictlyIncreasing};
+
+    ghost Value = { Items ℕ };
+
+    ghost view = { λ v. v.calls };
+
+    ghost invariant = { λ v. IsStrictlyIncreasing v.calls };
 }
 
 impl ListView {
@@ -36,14 +47,14 @@ impl ListView {
 
     pub fn new(calls: List<u32>) -> ListView
         requires { IsStrictlyIncreasing calls }
-        ensures { result.calls ≡ calls }
+        ensures { result ≡ calls }
     {
         ListView { calls }
     }
 }
 
 impl View for ListView {
-    ghost calls = { λ v. set.from_list v.calls };
+    ghost calls = { λ v. set.from_list v };
 
     fn has(&self, c: u32) -> bool {
         is_listed(self.calls.as_slice(), c)
