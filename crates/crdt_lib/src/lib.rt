@@ -20,7 +20,10 @@ pub use asked::Found;
 pub use atoms::atoms_of;
 pub use call::CallRec;
 pub use history::History;
-pub use laws::{row_11, row_12, row_13, row_32a, row_32b, row_32c, row_32d, row_38};
+pub use laws::{
+    add_beside_remove, amounts_of_both_signs, fields_apart, greater_stamp_decides, hidden_delete,
+    many_values, update_beside_delete,
+};
 pub use query::{holds, query_holds, query_value, value_of};
 pub use snapshot::is_snapshot;
 pub use view::{ListView, View};
