@@ -1,0 +1,11 @@
+pub mod AmountLemmas
+pub mod AtomLemmas
+pub mod BelowLemmas
+pub mod BitLemmas
+pub mod HistoryLemmas
+pub mod IntegerLemmas
+pub mod ListedLemmas
+pub mod MemberLemmas
+pub mod NewestLemmas
+pub mod SameLemmas
+pub mod TypeLemmas

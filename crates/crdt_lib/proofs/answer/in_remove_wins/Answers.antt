@@ -1,0 +1,14 @@
+use Rattle.std.proofs.Common.{◌&&◌, not, ◌∙◌, ap}
+use Rattle.rp_value.specs.ValueView.{value_view}
+use Rattle.rp_lang.specs.declared.op.OpKind.TheVariants.{Remove}
+use Rattle.crdt_lib.specs.Calls.{calls_view}
+use Rattle.crdt_lib.specs.Histories.{some_call}
+use Rattle.crdt_lib.specs.Snapshots.{bit}
+use Rattle.crdt_lib.specs.Doing as spec
+use Rattle.crdt_lib.specs.Meaning.{among, one_stays}
+use Rattle.crdt_lib.proofs.answer.in_remove_wins.Goals as goal
+
+pub returns : goal.returns
+returns c =
+    let h = calls_view c.args.h.now in
+    c.outlives.ensures ∙ ap (λ those. some_call h those && not (one_stays h (among h (bit c.args.counted.now) (spec.does c.args.ops.now Remove (value_view c.args.x.now))) those)) c.pick.ensures

@@ -1,0 +1,10 @@
+use Rattle.std.proofs.Common.{◌≡◌, ◌<◌, ℕ}
+use Rattle.rp_value.specs.ValueView.{value_view}
+use Rattle.crdt_lib.specs.Calls.{calls_view}
+use Rattle.crdt_lib.specs.Snapshots.{bit}
+use Rattle.crdt_lib.specs.Doing as spec
+use Rattle.crdt_lib.specs.Meaning.{among}
+use Rattle.crdt_lib.proofs.row.enter_key.Given as goal
+
+abbrev pub invariant-loop-c : goal.invariant-loop-c
+invariant-loop-c l = (k : ℕ) → k < l.c → bit l.row k ≡ among (calls_view l.h) (bit l.counted) (spec.goes_to_key l.ops l.depth (value_view l.k)) k

@@ -1,0 +1,12 @@
+pub mod Atoms
+pub mod Calls
+pub mod Counting
+pub mod Doing
+pub mod Histories
+pub mod Meaning
+pub mod Members
+pub mod Newest
+pub mod Queries
+pub mod Rows
+pub mod SameValues
+pub mod Snapshots

@@ -1,0 +1,48 @@
+// Integers inside values.
+ghost use Rattle.std.specs.Prelude.{◌≡◌, map};
+ghost use Rattle.std.specs.List.{list_all};
+ghost use Rattle.rp_value.specs.ValueView.{value_view, values_view};
+ghost use Rattle.crdt_lib.specs.Atoms as spec;
+
+use rp_value::Value;
+
+fn in_range(n: i128) -> bool
+    ensures { result ≡ spec.in_range n }
+{
+    -9_223_372_036_854_775_808 <= n && n <= 9_223_372_036_854_775_807
+}
+
+/// Whether each integer inside the value has 64 bits.
+#[cycle(fit)]
+#[tactic(auto, using(rp_value::proofs::ValueViews::value_views))]
+fn ints_fit(value: &Value) -> bool
+    ensures { result ≡ spec.ints_fit (value_view value.now) }
+{
+    match value {
+        Value::Int(n) => in_range(*n),
+        Value::Con { con: _, args } => all_ints_fit(args.as_slice()),
+        Value::Str(_) => true,
+        Value::Atom { .. } => true,
+        Value::Call(_) => true,
+        Value::Inv(_) => true,
+    }
+}
+
+#[cycle(fit)]
+fn all_ints_fit(values: &[Value]) -> bool
+    ensures { result ≡ spec.all_ints_fit (values_view values.now) }
+{
+    for value in values {
+        if !ints_fit(value) {
+            return false;
+        }
+    }
+    true
+}
+
+/// Whether each integer inside the arguments has 64 bits.
+pub(crate) fn args_fit(args: &[Value]) -> bool
+    ensures { result ≡ list_all spec.ints_fit (map value_view args.now) }
+{
+    all_ints_fit(args)
+}
