@@ -2,10 +2,12 @@ pub mod AmountLemmas
 pub mod AtomLemmas
 pub mod BelowLemmas
 pub mod BitLemmas
+pub mod BlockLemmas
 pub mod HistoryLemmas
 pub mod IntegerLemmas
 pub mod ListedLemmas
 pub mod MemberLemmas
 pub mod NewestLemmas
+pub mod PickedLemmas
 pub mod SameLemmas
 pub mod TypeLemmas

@@ -1,22 +1,23 @@
 -- The members of a set below a bound, one number at a time, and what makes the set a consistent snapshot.
 use Rattle.std.proofs.Common.{◌≡◌, ℕ, zero, suc, ◌+◌, ◌-◌, ◌<◌, ◌≤◌, Bool, true, false, cond, ◌||◌, ◌&&◌, not, refl, sym, ◌∙◌, ap, add-one, arith, List, [], ◌∷◌, length, inl, inr, nat_eq, Option, Some, None, slice_get}
 use Rattle.std.specs.List.{list_all, list_any}
-use Rattle.std.proofs.lemmas.Bool.{and_left, and_right, and_from, and_parts, or_left, or_right, cases_lt, cases_eq, cases_Bool, true≢false, eqb-true, eq-eqb, ne_eqb, not_from_false}
+use Rattle.std.proofs.lemmas.Bool.{and_left, and_from, and_parts, or_left, or_right, cases_lt, cases_eq, cases_Bool, true≢false, eqb-true, eq-eqb, ne_eqb}
 use Rattle.std.specs.Ordering.{nat_cmp, eq_by_cmp}
 use Rattle.std.specs.Cmp.{nat_cmp_total, unsigned_tied}
 use Rattle.std.specs.FinSet as set
 use Rattle.crdt_lib.specs.Calls.{Call}
-use Rattle.crdt_lib.specs.Histories.{meets, call_is, same_tx, past_of}
+use Rattle.crdt_lib.specs.Histories.{meets, past_of}
 use Rattle.crdt_lib.specs.Snapshots.{bit, IsSnapshot}
-use Rattle.crdt_lib.specs.Members.{splits, closed_at, without, AreClosedBelow}
-use Rattle.crdt_lib.proofs.BelowLemmas.{any_found, none_below}
+use Rattle.crdt_lib.specs.Blocks.{splits_one}
+use Rattle.crdt_lib.specs.Members.{caused_at, without, AreCausedBelow}
+use Rattle.crdt_lib.proofs.BlockLemmas.{none_split}
 use Rattle.crdt_lib.proofs.HistoryLemmas.{no_call_past}
 
 and_false : (b : Bool) → (b && false) ≡ false
 and_false true = refl
 and_false false = refl
 
-not_true : (b : Bool) → (not b ≡ true) → b ≡ false
+pub not_true : (b : Bool) → (not b ≡ true) → b ≡ false
 not_true false e = refl
 not_true true e = sym e
 
@@ -80,13 +81,6 @@ all_from p (x ∷ xs) h = and_from (p x) _
     (h x (or_left (nat_eq x x) _ (eq-eqb x x refl)))
     (all_from p xs (λ b here. h b (or_right (nat_eq x b) _ here)))
 
-within : (h : List Call) (test : Call → Bool) (k : ℕ) → call_is h test k ≡ true → k < length h
-within h test k here =
-    elim (cases_lt k (length h)) [
-      | inl lt ↦ lt
-      | inr le ↦ absurd (true≢false (sym here ∙ no_call_past h test k le))
-    ]
-
 by_past : (o : Option Call) (visible : ℕ → Bool) (c : ℕ) → list_all visible (past_of o) ≡ true → meets (λ call. list_any (λ b. nat_eq b c) call.past) o ≡ true → visible c ≡ true
 by_past None visible c all here = absurd (true≢false (sym here))
 by_past (Some call) visible c all here = all_listed visible call.past c all here
@@ -95,63 +89,40 @@ past_from : (o : Option Call) (visible : ℕ → Bool) → ((c : ℕ) → meets 
 past_from None visible h = refl
 past_from (Some call) visible h = all_from visible call.past h
 
-same_tx_within : (h : List Call) (o : Option Call) (d : ℕ) → meets (λ a. call_is h (λ b. nat_eq a.tx b.tx) d) o ≡ true → d < length h
-same_tx_within h None d here = absurd (true≢false (sym here))
-same_tx_within h (Some a) d here = within h (λ b. nat_eq a.tx b.tx) d here
-
 module _ (h : List Call) (committed : List Bool) (visible : ℕ → Bool) where
-  -- each visible call is closed
-  abbrev pub EachClosed : Type 0
-  EachClosed = (c : ℕ) → visible c ≡ true → closed_at h committed visible c ≡ true
+  -- each visible call is committed, and its past is visible
+  abbrev pub EachCaused : Type 0
+  EachCaused = (c : ℕ) → visible c ≡ true → caused_at h committed visible c ≡ true
 
-  no_split : EachClosed → (c d : ℕ) → visible c ≡ true → same_tx h c d ≡ true → visible d ≡ true
-  no_split each c d here same =
-      elim (cases_Bool (visible d)) [
-        | inl y ↦ y
-        | inr e ↦
-            let split : splits h visible c ≡ true = any_found (λ k. same_tx h c k && not (visible k)) (length h) d (same_tx_within h (slice_get h c) d same) (and_from (same_tx h c d) _ same (ap not e)) in
-            absurd (true≢false (sym (and_parts _ _ (each c here)).1 ∙ ap not split))
-      ]
-
-  pub snapshot_from : EachClosed → IsSnapshot h committed visible
-  snapshot_from each = record {
-    commits = λ c here. (and_parts _ _ (and_parts _ _ (each c here)).0).0;
-    causes = λ c d here cause. by_past (slice_get h d) visible c (and_parts _ _ (and_parts _ _ (each d here)).0).1 cause;
-    whole = λ c d here same. no_split each c d here same;
+  pub snapshot_from : EachCaused → splits_one h visible (length committed) ≡ false → IsSnapshot h committed visible
+  snapshot_from each none = record {
+    commits = λ c here. (and_parts _ _ (each c here)).0;
+    causes = λ c d here cause. by_past (slice_get h d) visible c (and_parts _ _ (each d here)).1 cause;
+    whole = λ c d here same. none_split h committed visible none c d here (and_parts _ _ (each c here)).0 same;
   }
 
-  missed_none : IsSnapshot h committed visible → (c : ℕ) → visible c ≡ true → (d : ℕ) → (same_tx h c d && not (visible d)) ≡ false
-  missed_none snap c here d =
-      elim (cases_Bool (same_tx h c d)) [
-        | inl same ↦ and_right (same_tx h c d) _ (ap not (snap.whole c d here same))
-        | inr other ↦ and_left (same_tx h c d) _ other
-      ]
-
-  pub closed_from : IsSnapshot h committed visible → EachClosed
-  closed_from snap c here =
-      and_from _ _
-      (and_from _ _ (snap.commits c here) (past_from (slice_get h c) visible (λ b cause. snap.causes b c here cause)))
-      (not_from_false _ (none_below (λ d. same_tx h c d && not (visible d)) (length h) (λ d lt. missed_none snap c here d)))
+  pub caused_from : IsSnapshot h committed visible → EachCaused
+  caused_from snap c here = and_from _ _ (snap.commits c here) (past_from (slice_get h c) visible (λ b cause. snap.causes b c here cause))
 
 -- # All members
 
 module _ (h : List Call) (committed : List Bool) (s : set.FinSet nat_cmp) where
-  pub step_yes : (n members : ℕ) → set.contains s n ≡ true → closed_at h committed (set.contains s) n ≡ true → AreClosedBelow h committed s n members → AreClosedBelow h committed s (n + 1) (members + 1)
+  pub step_yes : (n members : ℕ) → set.contains s n ≡ true → caused_at h committed (set.contains s) n ≡ true → AreCausedBelow h committed s n members → AreCausedBelow h committed s (n + 1) (members + 1)
   step_yes n members y e c = record {
     counted = more_yes s n members y c.counted;
-    closed = λ k lt v. elim (cases_eq k n) [ inl same ↦ ap (closed_at h committed (set.contains s)) same ∙ e | inr other ↦ c.closed k (omega arith) v ];
+    caused = λ k lt v. elim (cases_eq k n) [ inl same ↦ ap (caused_at h committed (set.contains s)) same ∙ e | inr other ↦ c.caused k (omega arith) v ];
   }
 
-  pub step_no : (n members : ℕ) → set.contains s n ≡ false → AreClosedBelow h committed s n members → AreClosedBelow h committed s (n + 1) members
+  pub step_no : (n members : ℕ) → set.contains s n ≡ false → AreCausedBelow h committed s n members → AreCausedBelow h committed s (n + 1) members
   step_no n members y c = record {
     counted = more_no s n members y c.counted;
-    closed = λ k lt v. elim (cases_eq k n) [ inl same ↦ absurd (true≢false (sym v ∙ ap (set.contains s) same ∙ y)) | inr other ↦ c.closed k (omega arith) v ];
+    caused = λ k lt v. elim (cases_eq k n) [ inl same ↦ absurd (true≢false (sym v ∙ ap (set.contains s) same ∙ y)) | inr other ↦ c.caused k (omega arith) v ];
   }
 
-  all_closed : (members : ℕ) → AreClosedBelow h committed s (length h) members → members ≡ set.len s → EachClosed h committed (set.contains s)
-  all_closed members c e = λ k y.
+  all_caused : (members : ℕ) → AreCausedBelow h committed s (length h) members → members ≡ set.len s → EachCaused h committed (set.contains s)
+  all_caused members c e = λ k y.
       elim (cases_lt k (length h)) [
-        | inl lt ↦ c.closed k lt y
+        | inl lt ↦ c.caused k lt y
         | inr le ↦
             let counted : members + set.len (without s (length h)) ≡ set.len s = c.counted in
             let none : set.len (without s (length h)) ≡ 0 = omega arith in
@@ -168,16 +139,16 @@ module _ (h : List Call) (committed : List Bool) (s : set.FinSet nat_cmp) where
         ]
       ]
 
-  pub snapshot_counted : (members : ℕ) → AreClosedBelow h committed s (length h) members → members ≡ set.len s → IsSnapshot h committed (set.contains s)
-  snapshot_counted members c e = snapshot_from h committed (set.contains s) (all_closed members c e)
+  pub snapshot_counted : (members : ℕ) → AreCausedBelow h committed s (length h) members → members ≡ set.len s → splits_one h (set.contains s) (length committed) ≡ false → IsSnapshot h committed (set.contains s)
+  snapshot_counted members c e none = snapshot_from h committed (set.contains s) (all_caused members c e) none
 
-  pub counted_snapshot : (members : ℕ) → AreClosedBelow h committed s (length h) members → IsSnapshot h committed (set.contains s) → members ≡ set.len s
+  pub counted_snapshot : (members : ℕ) → AreCausedBelow h committed s (length h) members → IsSnapshot h committed (set.contains s) → members ≡ set.len s
   counted_snapshot members c snap =
       let same : without s (length h) ≡ set.empty = set.same_set nat_cmp_total set.nat_cmp-IsAntisymmetric _ _ (λ q. no_member snap q ∙ sym (set.contains-empty nat_cmp q)) in
       let none : set.len (without s (length h)) ≡ 0 = ap (λ t. set.len t) same ∙ set.len-empty nat_cmp in
       let counted : members + set.len (without s (length h)) ≡ set.len s = c.counted in
       omega arith
 
-  -- a member that isn't closed is in no snapshot
-  pub no_snapshot : (k : ℕ) → set.contains s k ≡ true → closed_at h committed (set.contains s) k ≡ false → IsSnapshot h committed (set.contains s) → ⊥
-  no_snapshot k y e snap = true≢false (sym (closed_from h committed (set.contains s) snap k y) ∙ e)
+  -- a member that isn't committed, or whose past isn't visible, is in no snapshot
+  pub no_snapshot : (k : ℕ) → set.contains s k ≡ true → caused_at h committed (set.contains s) k ≡ false → IsSnapshot h committed (set.contains s) → ⊥
+  no_snapshot k y e snap = true≢false (sym (caused_from h committed (set.contains s) snap k y) ∙ e)

@@ -1,4 +1,5 @@
 pub mod Atoms
+pub mod Blocks
 pub mod Calls
 pub mod Counting
 pub mod Doing
@@ -6,6 +7,7 @@ pub mod Histories
 pub mod Meaning
 pub mod Members
 pub mod Newest
+pub mod Picked
 pub mod Queries
 pub mod Rows
 pub mod SameValues

@@ -1,5 +1,5 @@
 // What is asked of the calls that count.
-ghost use Rattle.std.specs.Prelude.{◌≡◌, ◌<◌, ◌≤◌, ◌+◌, ◌&&◌, not, ℤ, pos, negsuc, ◌+ℤ◌, ◌≤ℤ◌, if◌then◌else◌, length, slice_get, map, Some, [], ◌∷◌, IfSome};
+ghost use Rattle.std.specs.Prelude.{◌≡◌, ◌<◌, ◌≤◌, ◌+◌, ◌&&◌, not, ℤ, pos, negsuc, ◌+ℤ◌, ◌≤ℤ◌, if◌then◌else◌, length, slice_get, map, Some, [], ◌∷◌, IfSome, All};
 ghost use Rattle.rp_value.specs.ValueView.{value_view};
 ghost use Rattle.rp_lang.specs.declared.op.OpKind.TheVariants.{Add, Remove, Assign};
 ghost use Rattle.crdt_lib.specs.Calls.{call_view, calls_view};
@@ -8,59 +8,55 @@ ghost use Rattle.crdt_lib.specs.Snapshots.{bit};
 ghost use Rattle.crdt_lib.specs.Doing as spec;
 ghost use Rattle.crdt_lib.specs.Newest.{better};
 ghost use Rattle.crdt_lib.specs.Meaning.{among, at_key, one_stays, contains_add_wins, contains_remove_wins, contains_value, stamp_of, latest, counter_sum};
+ghost use Rattle.crdt_lib.specs.Picked.{listed};
 ghost use Rattle.crdt_lib.specs.Queries.{answer_at, at_call};
 
 use crate::asked::{Answer, Found, Question, Winner};
 use crate::call::CallRec;
 use crate::doing::keys_in;
 use crate::history::History;
-use crate::row::{any, any_stays, is_here, narrow, pick, pick_kind};
+use crate::picked::{MOST, any_stays, is_any, pick, pick_kind};
+use crate::row::{any, is_here, narrow};
 use rp_lang::{OpDecl, OpKind};
 use rp_value::Value;
 
 /// Whether x is in a set where adds win.
-fn in_add_wins(h: &History, ops: &[OpDecl], counted: &[bool], x: &Value, spare: &mut [bool]) -> bool
+fn in_add_wins(h: &History, ops: &[OpDecl], counted: &[bool], x: &Value) -> bool
     requires row { length counted.now ≡ length h.now }
-    requires spare { length spare.old ≡ length h.now }
     ensures { result ≡ contains_add_wins ops.now (calls_view h.now) (bit counted.now) (value_view x.now) }
 {
-    pick(h, ops, counted, OpKind::Remove, x, spare);
-    any_stays(h, ops, counted, OpKind::Add, x, spare)
+    let mut removes = [0; MOST];
+    let count = pick(h, ops, counted, OpKind::Remove, x, &mut removes);
+    any_stays(h, ops, counted, OpKind::Add, x, &removes[..count])
 }
 
-/// Whether some call is marked, and each remove of x is before a marked call.
-fn outlives(h: &History, ops: &[OpDecl], counted: &[bool], x: &Value, added: &[bool]) -> bool
+/// Whether some call is listed, and each remove of x is before a listed call.
+fn outlives(h: &History, ops: &[OpDecl], counted: &[bool], x: &Value, adds: &[u32]) -> bool
     requires row { length counted.now ≡ length h.now }
-    requires added { length added.now ≡ length h.now }
-    ensures { result ≡ (some_call (calls_view h.now) (bit added.now) && not (one_stays (calls_view h.now) (among (calls_view h.now) (bit counted.now) (spec.does ops.now Remove (value_view x.now))) (bit added.now))) }
+    requires adds { All (λ d. d < length h.now) adds.now }
+    ensures { result ≡ (some_call (calls_view h.now) (listed adds.now) && not (one_stays (calls_view h.now) (among (calls_view h.now) (bit counted.now) (spec.does ops.now Remove (value_view x.now))) (listed adds.now))) }
 {
-    any(h, added) && !any_stays(h, ops, counted, OpKind::Remove, x, added)
+    is_any(h, adds) && !any_stays(h, ops, counted, OpKind::Remove, x, adds)
 }
 
 /// Whether x is in a set where removes win.
-fn in_remove_wins(
-    h: &History,
-    ops: &[OpDecl],
-    counted: &[bool],
-    x: &Value,
-    spare: &mut [bool],
-) -> bool
+fn in_remove_wins(h: &History, ops: &[OpDecl], counted: &[bool], x: &Value) -> bool
     requires row { length counted.now ≡ length h.now }
-    requires spare { length spare.old ≡ length h.now }
     ensures { result ≡ contains_remove_wins ops.now (calls_view h.now) (bit counted.now) (value_view x.now) }
 {
-    pick(h, ops, counted, OpKind::Add, x, spare);
-    outlives(h, ops, counted, x, spare)
+    let mut adds = [0; MOST];
+    let count = pick(h, ops, counted, OpKind::Add, x, &mut adds);
+    outlives(h, ops, counted, x, &adds[..count])
 }
 
 /// Whether x is a value of a register of many values.
-fn has_value(h: &History, ops: &[OpDecl], counted: &[bool], x: &Value, spare: &mut [bool]) -> bool
+fn has_value(h: &History, ops: &[OpDecl], counted: &[bool], x: &Value) -> bool
     requires row { length counted.now ≡ length h.now }
-    requires spare { length spare.old ≡ length h.now }
     ensures { result ≡ contains_value ops.now (calls_view h.now) (bit counted.now) (value_view x.now) }
 {
-    pick_kind(h, ops, counted, OpKind::Assign, spare);
-    any_stays(h, ops, counted, OpKind::Assign, x, spare)
+    let mut assigns = [0; MOST];
+    let count = pick_kind(h, ops, counted, OpKind::Assign, &mut assigns);
+    any_stays(h, ops, counted, OpKind::Assign, x, &assigns[..count])
 }
 
 /// Whether a map has the key k.
@@ -255,9 +251,9 @@ fn answer_one(
     ensures { result ≡ answer_at ops.now (calls_view h.now) depth (bit counted.now) question (value_view x.now ∷ []) }
 {
     match question {
-        Question::AddWins => Answer::Truth(in_add_wins(h, ops, counted, x, spare)),
-        Question::RemoveWins => Answer::Truth(in_remove_wins(h, ops, counted, x, spare)),
-        Question::ManyValues => Answer::Truth(has_value(h, ops, counted, x, spare)),
+        Question::AddWins => Answer::Truth(in_add_wins(h, ops, counted, x)),
+        Question::RemoveWins => Answer::Truth(in_remove_wins(h, ops, counted, x)),
+        Question::ManyValues => Answer::Truth(has_value(h, ops, counted, x)),
         Question::AtKey(winner) => Answer::Truth(has_key(h, ops, winner, depth, counted, x, spare)),
         Question::Latest => Answer::Truth(false),
         Question::Total => Answer::Truth(false),

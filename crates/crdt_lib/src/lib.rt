@@ -9,6 +9,7 @@ mod doing;
 mod history;
 mod integers;
 mod laws;
+mod picked;
 mod query;
 mod row;
 mod snapshot;

@@ -3,10 +3,10 @@ ghost use Rattle.std.specs.Prelude.{◌≡◌, ◌<◌, ℕ, ◌&&◌, not, leng
 ghost use Rattle.std.specs.FinSet as set;
 ghost use Rattle.rp_value.specs.ValueView.{value_view};
 ghost use Rattle.crdt_lib.specs.Calls.{calls_view};
-ghost use Rattle.crdt_lib.specs.Histories.{call_is, some_call, before};
+ghost use Rattle.crdt_lib.specs.Histories.{call_is, some_call};
 ghost use Rattle.crdt_lib.specs.Snapshots.{bit};
 ghost use Rattle.crdt_lib.specs.Doing as spec;
-ghost use Rattle.crdt_lib.specs.Meaning.{among, in_field, at_key, loses, is_before_one, one_stays};
+ghost use Rattle.crdt_lib.specs.Meaning.{among, in_field, at_key, loses};
 
 use crate::asked::Winner;
 use crate::doing::{deletes, does, goes_to_field, goes_to_key, is_of, on_root};
@@ -178,30 +178,19 @@ pub(crate) fn narrow(
 }
 
 /// Whether c counts and does this with x.
-fn does_here(h: &History, ops: &[OpDecl], counted: &[bool], kind: OpKind, x: &Value, c: u32) -> bool
-    requires row { length counted.now ≡ length h.now }
-    requires at_c { c < length h.now }
-    ensures { result ≡ among (calls_view h.now) (bit counted.now) (spec.does ops.now kind (value_view x.now)) c }
-{
-    counted[c as usize] && does(ops, kind, x, h.call(c))
-}
-
-/// Marks those of `counted` that do this with x.
-pub(crate) fn pick(
+pub(crate) fn does_here(
     h: &History,
     ops: &[OpDecl],
     counted: &[bool],
     kind: OpKind,
     x: &Value,
-    row: &mut [bool],
-)
-    requires from { length counted.now ≡ length h.now }
-    requires to { length row.old ≡ length h.now }
-    ensures { bit row.new ≡ among (calls_view h.now) (bit counted.now) (spec.does ops.now kind (value_view x.now)) }
+    c: u32,
+) -> bool
+    requires row { length counted.now ≡ length h.now }
+    requires at_c { c < length h.now }
+    ensures { result ≡ among (calls_view h.now) (bit counted.now) (spec.does ops.now kind (value_view x.now)) c }
 {
-    for c in 0..h.len() {
-        row[c as usize] = does_here(h, ops, counted, kind, x, c);
-    }
+    counted[c as usize] && does(ops, kind, x, h.call(c))
 }
 
 /// Whether c counts and is of this kind.
@@ -211,23 +200,6 @@ pub(crate) fn is_here(h: &History, ops: &[OpDecl], counted: &[bool], kind: OpKin
     ensures { result ≡ among (calls_view h.now) (bit counted.now) (spec.is_of ops.now kind) c }
 {
     counted[c as usize] && is_of(ops, kind, h.call(c))
-}
-
-/// Marks those of `counted` that are of this kind.
-pub(crate) fn pick_kind(
-    h: &History,
-    ops: &[OpDecl],
-    counted: &[bool],
-    kind: OpKind,
-    row: &mut [bool],
-)
-    requires from { length counted.now ≡ length h.now }
-    requires to { length row.old ≡ length h.now }
-    ensures { bit row.new ≡ among (calls_view h.now) (bit counted.now) (spec.is_of ops.now kind) }
-{
-    for c in 0..h.len() {
-        row[c as usize] = is_here(h, ops, counted, kind, c);
-    }
 }
 
 fn is_marked(row: &[bool], c: u32) -> bool
@@ -245,69 +217,6 @@ pub(crate) fn any(h: &History, row: &[bool]) -> bool
 {
     for c in 0..h.len() {
         if is_marked(row, c) {
-            return true;
-        }
-    }
-    false
-}
-
-/// Whether d is marked and c is before it.
-fn comes_later(h: &History, row: &[bool], c: u32, d: u32) -> bool
-    requires row { length row.now ≡ length h.now }
-    requires at_d { d < length h.now }
-    ensures { result ≡ (bit row.now d && before (calls_view h.now) c d) }
-{
-    row[d as usize] && h.before(c, d)
-}
-
-/// Whether c is before some marked call.
-#[tactic(auto, using(crate::proofs::BelowLemmas::any_more))]
-fn is_before(h: &History, row: &[bool], c: u32) -> bool
-    requires { length row.now ≡ length h.now }
-    ensures { result ≡ is_before_one (calls_view h.now) (bit row.now) c }
-{
-    for d in 0..h.len() {
-        if comes_later(h, row, c, d) {
-            return true;
-        }
-    }
-    false
-}
-
-/// Whether c counts, does this with x, and is before no marked call.
-fn stays(
-    h: &History,
-    ops: &[OpDecl],
-    counted: &[bool],
-    kind: OpKind,
-    x: &Value,
-    row: &[bool],
-    c: u32,
-) -> bool
-    requires from { length counted.now ≡ length h.now }
-    requires marked { length row.now ≡ length h.now }
-    requires at_c { c < length h.now }
-    ensures { result ≡ (among (calls_view h.now) (bit counted.now) (spec.does ops.now kind (value_view x.now)) c && not (is_before_one (calls_view h.now) (bit row.now) c)) }
-{
-    does_here(h, ops, counted, kind, x, c) && !is_before(h, row, c)
-}
-
-/// Whether some call of `counted` that does this with x is before no marked call.
-#[tactic(auto, using(crate::proofs::BelowLemmas::any_more))]
-pub(crate) fn any_stays(
-    h: &History,
-    ops: &[OpDecl],
-    counted: &[bool],
-    kind: OpKind,
-    x: &Value,
-    row: &[bool],
-) -> bool
-    requires from { length counted.now ≡ length h.now }
-    requires marked { length row.now ≡ length h.now }
-    ensures { result ≡ one_stays (calls_view h.now) (among (calls_view h.now) (bit counted.now) (spec.does ops.now kind (value_view x.now))) (bit row.now) }
-{
-    for c in 0..h.len() {
-        if stays(h, ops, counted, kind, x, row, c) {
             return true;
         }
     }

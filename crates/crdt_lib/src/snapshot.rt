@@ -1,33 +1,38 @@
-ghost use Rattle.std.specs.Prelude.{◌≡◌, ◌<◌, ◌↔◌, IsTrue, ℕ, ◌&&◌, length, slice_get, nat_eq, not};
+ghost use Rattle.std.specs.Prelude.{◌≡◌, ◌<◌, ◌↔◌, IsTrue, ℕ, ◌+◌, ◌&&◌, ◌||◌, false, length, slice_get, nat_eq, not};
 ghost use Rattle.std.specs.List.{list_all};
 ghost use Rattle.std.specs.FinSet as set;
 ghost use Rattle.crdt_lib.specs.Calls.{calls_view};
-ghost use Rattle.crdt_lib.specs.Histories.{call_is, past_of, some_call};
+ghost use Rattle.crdt_lib.specs.Counting.{any_below};
+ghost use Rattle.crdt_lib.specs.Histories.{call_is, past_of};
 ghost use Rattle.crdt_lib.specs.Snapshots.{bit, IsSnapshot};
-ghost use Rattle.crdt_lib.specs.Members.{splits, closed_at, AreClosed};
+ghost use Rattle.crdt_lib.specs.Members.{caused_at, AreCaused};
+ghost use Rattle.crdt_lib.specs.Blocks as spec;
 
 use crate::history::History;
 use crate::view::View;
+
+/// How many transactions one pass over the calls looks at.
+const BLOCK: usize = 16_384;
 
 /// Whether the view is a consistent snapshot, where `committed` says of each transaction whether it is committed; one
 /// past its end isn't. It takes no memory.
 pub fn is_snapshot<V: View>(h: &History, committed: &[bool], view: &V) -> bool
     ensures { IsTrue result ↔ IsSnapshot (calls_view h.now) committed.now (set.contains (V.calls view.now)) }
 {
-    match closed_members(h, committed, view) {
-        Some(members) => members == view.size(),
+    match caused_members(h, committed, view) {
+        Some(members) => members == view.size() && !splits_one(h, view, committed.len()),
         None => false,
     }
 }
 
-/// How many calls of the history are visible, where each of them is committed and its past and transaction are visible.
-fn closed_members<V: View>(h: &History, committed: &[bool], view: &V) -> Option<u32>
-    ensures { AreClosed (calls_view h.now) committed.now (V.calls view.now) result }
+/// How many calls of the history are visible, where each of them is committed and its past is visible.
+fn caused_members<V: View>(h: &History, committed: &[bool], view: &V) -> Option<u32>
+    ensures { AreCaused (calls_view h.now) committed.now (V.calls view.now) result }
 {
     let mut members = 0;
     for c in 0..h.len() {
         if view.has(c) {
-            if !is_closed(h, committed, view, c) {
+            if !is_caused(h, committed, view, c) {
                 return None;
             }
             members += 1;
@@ -36,11 +41,11 @@ fn closed_members<V: View>(h: &History, committed: &[bool], view: &V) -> Option<
     Some(members)
 }
 
-fn is_closed<V: View>(h: &History, committed: &[bool], view: &V, c: u32) -> bool
+fn is_caused<V: View>(h: &History, committed: &[bool], view: &V, c: u32) -> bool
     requires { c < length h.now }
-    ensures { result ≡ closed_at (calls_view h.now) committed.now (set.contains (V.calls view.now)) c }
+    ensures { result ≡ caused_at (calls_view h.now) committed.now (set.contains (V.calls view.now)) c }
 {
-    is_committed(h, committed, c) && sees_past(h, view, c) && !splits_transaction(h, view, c)
+    is_committed(h, committed, c) && sees_past(h, view, c)
 }
 
 fn is_committed(h: &History, committed: &[bool], c: u32) -> bool
@@ -77,31 +82,81 @@ fn sees_all<V: View>(view: &V, calls: &[u32]) -> bool
     true
 }
 
-/// Whether some call of c's transaction isn't visible.
-fn splits_transaction<V: View>(h: &History, view: &V, c: u32) -> bool
-    requires { c < length h.now }
-    ensures { result ≡ splits (calls_view h.now) (set.contains (V.calls view.now)) c }
-{
-    misses_one(h, view, h.call(c).tx)
-}
-
-/// Whether some call of the transaction isn't visible.
+/// Whether some transaction below the bound is visible in part.
 #[tactic(auto, using(crate::proofs::BelowLemmas::any_more))]
-fn misses_one<V: View>(h: &History, view: &V, tx: u32) -> bool
-    ensures { result ≡ some_call (calls_view h.now) (λ d. call_is (calls_view h.now) (λ call. nat_eq tx call.tx) d && not (set.contains (V.calls view.now) d)) }
+fn splits_one<V: View>(h: &History, view: &V, bound: usize) -> bool
+    ensures { result ≡ spec.splits_one (calls_view h.now) (set.contains (V.calls view.now)) bound }
 {
-    for d in 0..h.len() {
-        if is_missed(h, view, tx, d) {
+    for block in 0..bound / BLOCK + 1 {
+        if splits_in(h, view, block) {
             return true;
         }
     }
     false
 }
 
-/// Whether d is of the transaction and isn't visible.
-fn is_missed<V: View>(h: &History, view: &V, tx: u32, d: u32) -> bool
-    requires { d < length h.now }
-    ensures { result ≡ (call_is (calls_view h.now) (λ call. nat_eq tx call.tx) d && not (set.contains (V.calls view.now) d)) }
+/// Whether some transaction of the block is visible in part.
+fn splits_in<V: View>(h: &History, view: &V, block: usize) -> bool
+    requires { block < 1125899906842624 }
+    ensures { result ≡ spec.splits (calls_view h.now) (set.contains (V.calls view.now)) block }
 {
-    tx == h.call(d).tx && !view.has(d)
+    let mut seen = [false; BLOCK];
+    mark_seen(h, view, block * BLOCK, &mut seen);
+    misses_one(h, view, block * BLOCK, &seen)
+}
+
+/// Marks the transactions of the block from `base` on that have a visible call.
+fn mark_seen<V: View>(h: &History, view: &V, base: usize, seen: &mut [bool])
+    requires block { length seen.old ≡ 16384 }
+    requires none { (t : ℕ) → bit seen.old t ≡ false }
+    ensures block { length seen.new ≡ 16384 }
+    ensures seen { (t : ℕ) → t < 16384 → bit seen.new t ≡ spec.is_seen (calls_view h.now) (set.contains (V.calls view.now)) (base + t) }
+{
+    for c in 0..h.len() {
+        if view.has(c) {
+            mark(seen, base, h.call(c).tx as usize);
+        }
+    }
+}
+
+/// Marks the transaction, where it is of the block.
+fn mark(seen: &mut [bool], base: usize, tx: usize)
+    requires block { length seen.old ≡ 16384 }
+    ensures block { length seen.new ≡ 16384 }
+    ensures seen { (t : ℕ) → t < 16384 → bit seen.new t ≡ (nat_eq tx (base + t) || bit seen.old t) }
+{
+    if base <= tx && tx - base < BLOCK {
+        seen[tx - base] = true;
+    }
+}
+
+/// Whether some call isn't visible, and is of a marked transaction.
+#[tactic(auto, using(crate::proofs::BelowLemmas::any_more))]
+fn misses_one<V: View>(h: &History, view: &V, base: usize, seen: &[bool]) -> bool
+    requires block { length seen.now ≡ 16384 }
+    ensures { result ≡ any_below (λ d. call_is (calls_view h.now) (λ call. spec.is_marked base seen.now call.tx) d && not (set.contains (V.calls view.now) d)) (length (calls_view h.now)) }
+{
+    for d in 0..h.len() {
+        if is_missed(h, view, base, seen, d) {
+            return true;
+        }
+    }
+    false
+}
+
+/// Whether d is of a marked transaction and isn't visible.
+fn is_missed<V: View>(h: &History, view: &V, base: usize, seen: &[bool], d: u32) -> bool
+    requires block { length seen.now ≡ 16384 }
+    requires at_d { d < length h.now }
+    ensures { result ≡ (call_is (calls_view h.now) (λ call. spec.is_marked base seen.now call.tx) d && not (set.contains (V.calls view.now) d)) }
+{
+    is_marked(base, seen, h.call(d).tx as usize) && !view.has(d)
+}
+
+/// Whether the transaction is of the block and marked.
+fn is_marked(base: usize, seen: &[bool], tx: usize) -> bool
+    requires block { length seen.now ≡ 16384 }
+    ensures { result ≡ spec.is_marked base seen.now tx }
+{
+    base <= tx && is_set(seen, tx - base)
 }

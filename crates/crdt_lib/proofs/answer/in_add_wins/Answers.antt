@@ -10,4 +10,4 @@ use Rattle.crdt_lib.proofs.answer.in_add_wins.Goals as goal
 pub returns : goal.returns
 returns c =
     let h = calls_view c.args.h.now in
-    c.any_stays.ensures ∙ ap (λ those. one_stays h (among h (bit c.args.counted.now) (spec.does c.args.ops.now Add (value_view c.args.x.now))) those) c.pick.ensures
+    c.any_stays.ensures ∙ ap (λ those. one_stays h (among h (bit c.args.counted.now) (spec.does c.args.ops.now Add (value_view c.args.x.now))) those) c.pick-count.ensures.picked

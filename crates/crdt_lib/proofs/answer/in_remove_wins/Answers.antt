@@ -11,4 +11,4 @@ use Rattle.crdt_lib.proofs.answer.in_remove_wins.Goals as goal
 pub returns : goal.returns
 returns c =
     let h = calls_view c.args.h.now in
-    c.outlives.ensures ∙ ap (λ those. some_call h those && not (one_stays h (among h (bit c.args.counted.now) (spec.does c.args.ops.now Remove (value_view c.args.x.now))) those)) c.pick.ensures
+    c.outlives.ensures ∙ ap (λ those. some_call h those && not (one_stays h (among h (bit c.args.counted.now) (spec.does c.args.ops.now Remove (value_view c.args.x.now))) those)) c.pick-count.ensures.picked

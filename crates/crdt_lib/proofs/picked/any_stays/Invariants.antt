@@ -5,7 +5,8 @@ use Rattle.crdt_lib.specs.Counting.{any_below}
 use Rattle.crdt_lib.specs.Snapshots.{bit}
 use Rattle.crdt_lib.specs.Doing as spec
 use Rattle.crdt_lib.specs.Meaning.{among, is_before_one}
-use Rattle.crdt_lib.proofs.row.any_stays.Given as goal
+use Rattle.crdt_lib.specs.Picked.{listed}
+use Rattle.crdt_lib.proofs.picked.any_stays.Given as goal
 
 abbrev pub invariant-loop-c : goal.invariant-loop-c
-invariant-loop-c l = any_below (λ c. among (calls_view l.h) (bit l.counted) (spec.does l.ops l.kind (value_view l.x)) c && not (is_before_one (calls_view l.h) (bit l.row) c)) l.c ≡ false
+invariant-loop-c l = any_below (λ c. among (calls_view l.h) (bit l.counted) (spec.does l.ops l.kind (value_view l.x)) c && not (is_before_one (calls_view l.h) (listed l.calls) c)) l.c ≡ false
