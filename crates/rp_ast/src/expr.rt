@@ -12,6 +12,8 @@ pub struct ExprNode {
     pub what: ExprForm,
 }
 
+/// What an expression is. Parts that are large or rare stand in boxes, so that a node is cheap to
+/// hand on.
 #[cycle(expr)]
 #[derive(Debug, Drop)]
 pub enum ExprForm {
@@ -21,13 +23,13 @@ pub enum ExprForm {
     /// A chain of two or more.
     And(List<ExprNode>),
     Not(Boxed<ExprNode>),
-    Forall(Param, Boxed<ExprNode>),
-    Exists(Param, Boxed<ExprNode>),
+    Forall(Boxed<Param>, Boxed<ExprNode>),
+    Exists(Boxed<Param>, Boxed<ExprNode>),
     Compare(CompareOp, Boxed<ExprNode>, Boxed<ExprNode>),
     Plus(Boxed<ExprNode>, Boxed<ExprNode>),
     Minus(Boxed<ExprNode>, Boxed<ExprNode>),
     /// A number with its sign.
-    Int(i128),
+    Int(Boxed<i128>),
     /// The bytes that a string means.
     Str(Bytes),
     Truth(bool),
@@ -37,7 +39,7 @@ pub enum ExprForm {
     Tx,
     Call(CallWord, List<ExprNode>),
     Match(Boxed<ExprNode>, List<ExprArm>),
-    Access(AccessNode),
+    Access(Boxed<AccessNode>),
 }
 
 /// An arm of an `ExprForm::Match`.

@@ -19,7 +19,7 @@ fn ident(alloc: Global, text: &[u8]) -> Result<Ident, Memory> {
 // `b`
 fn variable(alloc: Global) -> Result<ExprNode, Memory> {
     let path = expr::path(ident(alloc, b"b")?, List::new(alloc), None);
-    Ok(expr::access(NOWHERE, path))
+    expr::access(alloc, NOWHERE, path)
 }
 
 // `b: Bool`

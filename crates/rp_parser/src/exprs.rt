@@ -8,8 +8,8 @@ ghost use Rattle.rp_grammar.specs.Trees.{TypeTree, Ident as IdentTree, ParamTree
 ghost use Rattle.rp_grammar.specs.Parts.{Part, part, join as join_spans};
 ghost use Rattle.rp_grammar.specs.Exprs.{quantifier_part};
 ghost use Rattle.rp_ast.specs.View.{ident_view, type_view, param_view, expr_view, expr_arm_view, access_view, step_view};
-ghost use Rattle.rp_tokens.specs.MachineStates.{State, want_prim, want_operand, more_and, more_or, have_bound, in_access};
-ghost use Rattle.rp_tokens.specs.MachineExprs.{want_andx, want_orx, want_expr, want_sum, want_bound, want_closed, want_parens, want_exprs, want_args, want_match, want_expr_arm, want_expr_arms, in_args, called_with};
+ghost use Rattle.rp_tokens.specs.MachineStates.{State, want_prim, want_operand, more_and, more_or, more_implies, more_cmp, more_sum, have_bound, in_access};
+ghost use Rattle.rp_tokens.specs.MachineExprs.{want_andx, want_expr, want_sum, want_bound, want_closed, want_parens, want_exprs, want_args, want_match, want_expr_arm, want_expr_arms, in_args, called_with};
 ghost use Rattle.rp_tokens.specs.Machine.{bounded};
 ghost use Rattle.rp_parser.specs.Marks.{toks, next_is};
 ghost use Rattle.rp_parser.specs.Reading.{Gives};
@@ -25,8 +25,8 @@ use crate::mark::Marks;
 use crate::next::{join, name, optional, symbol, symbol_within};
 use crate::patterns::read_arm_pattern;
 use crate::signs::{
-    BoundSign, StepSign, and_sign, args_sign, bound_sign, compare_sign, dot_step, expr_comma,
-    implies_sign, or_sign, step_sign, sum_sign,
+    BoundSign, StepSign, and_sign, args_sign, bound_sign, compare_sign, dot_step, ends_comparison,
+    ends_expr, expr_comma, implies_sign, or_sign, step_sign, sum_sign,
 };
 use crate::types::read_type;
 use rp_ast::build::expr;
@@ -52,7 +52,34 @@ pub(crate) fn read_expr(
         → Gives result (bounded 64 (want_expr d k) (toks marks.now))
         (λ x. bounded 64 (k (part (expr_view x.0) x.1)) (toks x.2.now)) }
 {
-    let (left, extent, rest) = read_or(alloc, marks, depth)?;
+    let (first, extent, rest) = read_operand(alloc, marks, depth)?;
+    if ends_expr(rest) {
+        return Ok((first, extent, rest));
+    }
+    read_expr_behind(alloc, first, extent, rest, depth)
+}
+
+/// The rest of an expression, behind its first operand.
+#[cycle(exprs)]
+#[inline(never)]
+fn read_expr_behind(
+    alloc: Global,
+    first: ExprNode,
+    first_extent: Span,
+    marks: Marks,
+    depth: u32,
+) -> Result<(ExprNode, Span, Marks), Fault>
+    requires { depth ≤ 64 }
+    ensures no_longer { IfOk result (λ x. length x.2.now ≤ length marks.now) }
+    ensures no_and { IfOk result (λ x. next_is symbols.And (toks x.2.now) ≡ false) }
+    ensures no_or { IfOk result (λ x. next_is symbols.Or (toks x.2.now) ≡ false) }
+    ensures no_implies { IfOk result (λ x. next_is symbols.Implies (toks x.2.now) ≡ false) }
+    ensures reads { (d : ℕ) → d ≡ depth → (k : Part ExprTree → State)
+        → Gives result (bounded 64 (more_and d (part (expr_view first) first_extent) []
+        (λ e. more_or d e [] (λ a. more_implies d a k))) (toks marks.now))
+        (λ x. bounded 64 (k (part (expr_view x.0) x.1)) (toks x.2.now)) }
+{
+    let (left, extent, rest) = read_or_behind(alloc, first, first_extent, marks, depth)?;
     let Some(after) = implies_sign(rest, depth) else {
         return Ok((left, extent, rest));
     };
@@ -61,22 +88,29 @@ pub(crate) fn read_expr(
     Ok((expr::implies(alloc, span, left, right)?, span, end))
 }
 
+/// The rest of a chain by `||`, behind the first operand of its first member.
 #[cycle(exprs)]
-fn read_or(alloc: Global, marks: Marks, depth: u32) -> Result<(ExprNode, Span, Marks), Fault>
-    requires { depth ≤ 65 }
-    ensures shallow { IfOk result (λ _. depth ≤ 64) }
-    ensures shorter { IfOk result (λ x. length x.2.now < length marks.now) }
+fn read_or_behind(
+    alloc: Global,
+    first: ExprNode,
+    first_extent: Span,
+    marks: Marks,
+    depth: u32,
+) -> Result<(ExprNode, Span, Marks), Fault>
+    requires { depth ≤ 64 }
+    ensures no_longer { IfOk result (λ x. length x.2.now ≤ length marks.now) }
     ensures no_and { IfOk result (λ x. next_is symbols.And (toks x.2.now) ≡ false) }
     ensures no_or { IfOk result (λ x. next_is symbols.Or (toks x.2.now) ≡ false) }
     ensures reads { (d : ℕ) → d ≡ depth → (k : Part ExprTree → State)
-        → Gives result (bounded 64 (want_orx d k) (toks marks.now))
+        → Gives result (bounded 64 (more_and d (part (expr_view first) first_extent) []
+        (λ e. more_or d e [] k)) (toks marks.now))
         (λ x. bounded 64 (k (part (expr_view x.0) x.1)) (toks x.2.now)) }
 {
-    let (first, first_extent, behind) = read_and(alloc, marks, depth)?;
-    let Some(after) = or_sign(behind, depth) else {
-        return Ok((first, first_extent, behind));
+    let (member, extent, rest) = read_and_behind(alloc, first, first_extent, marks, depth)?;
+    let Some(after) = or_sign(rest, depth) else {
+        return Ok((member, extent, rest));
     };
-    read_or_chain(alloc, first, first_extent, after, depth)
+    read_or_chain(alloc, member, extent, after, depth)
 }
 
 /// The rest of a chain, behind its first member and the operator.
@@ -124,8 +158,27 @@ fn read_and(alloc: Global, marks: Marks, depth: u32) -> Result<(ExprNode, Span, 
         (λ x. bounded 64 (k (part (expr_view x.0) x.1)) (toks x.2.now)) }
 {
     let (first, first_extent, behind) = read_operand(alloc, marks, depth)?;
-    let Some(after) = and_sign(behind, depth) else {
-        return Ok((first, first_extent, behind));
+    read_and_behind(alloc, first, first_extent, behind, depth)
+}
+
+/// The rest of a chain by `&&`, behind its first member.
+#[cycle(exprs)]
+fn read_and_behind(
+    alloc: Global,
+    first: ExprNode,
+    first_extent: Span,
+    marks: Marks,
+    depth: u32,
+) -> Result<(ExprNode, Span, Marks), Fault>
+    requires { depth ≤ 64 }
+    ensures no_longer { IfOk result (λ x. length x.2.now ≤ length marks.now) }
+    ensures no_and { IfOk result (λ x. next_is symbols.And (toks x.2.now) ≡ false) }
+    ensures reads { (d : ℕ) → d ≡ depth → (k : Part ExprTree → State)
+        → Gives result (bounded 64 (more_and d (part (expr_view first) first_extent) [] k)
+        (toks marks.now)) (λ x. bounded 64 (k (part (expr_view x.0) x.1)) (toks x.2.now)) }
+{
+    let Some(after) = and_sign(marks, depth) else {
+        return Ok((first, first_extent, marks));
     };
     read_and_chain(alloc, first, first_extent, after, depth)
 }
@@ -264,7 +317,31 @@ fn read_comparison(
         → Gives result (bounded 64 (want_comparison d k) (toks marks.now))
         (λ x. bounded 64 (k (part (expr_view x.0) x.1)) (toks x.2.now)) }
 {
-    let (left, extent, rest) = read_sum(alloc, marks, depth)?;
+    let (first, extent, rest) = read_prim(alloc, marks, depth)?;
+    if ends_comparison(rest) {
+        return Ok((first, extent, rest));
+    }
+    read_comparison_behind(alloc, first, extent, rest, depth)
+}
+
+/// The rest of a comparison, behind the first operand of its left sum.
+#[cycle(exprs)]
+#[inline(never)]
+fn read_comparison_behind(
+    alloc: Global,
+    first: ExprNode,
+    first_extent: Span,
+    marks: Marks,
+    depth: u32,
+) -> Result<(ExprNode, Span, Marks), Fault>
+    requires { depth ≤ 64 }
+    ensures no_longer { IfOk result (λ x. length x.2.now ≤ length marks.now) }
+    ensures reads { (d : ℕ) → d ≡ depth → (k : Part ExprTree → State)
+        → Gives result (bounded 64 (more_sum d (part (expr_view first) first_extent)
+        (λ a. more_cmp d a k)) (toks marks.now))
+        (λ x. bounded 64 (k (part (expr_view x.0) x.1)) (toks x.2.now)) }
+{
+    let (left, extent, rest) = read_sum_behind(alloc, first, first_extent, marks, depth)?;
     let Some((op, after)) = compare_sign(rest, depth) else {
         return Ok((left, extent, rest));
     };
@@ -282,18 +359,32 @@ fn read_sum(alloc: Global, marks: Marks, depth: u32) -> Result<(ExprNode, Span, 
         → Gives result (bounded 64 (want_sum d k) (toks marks.now))
         (λ x. bounded 64 (k (part (expr_view x.0) x.1)) (toks x.2.now)) }
 {
-    let (mut left, mut extent, mut rest) = read_prim(alloc, marks, depth)?;
-    let mut inner = depth;
-    'operators: loop {
-        let Some((sign, after)) = sum_sign(rest, inner) else {
-            return Ok((left, extent, rest));
-        };
-        let (right, right_extent, end) = read_prim(alloc, after, inner + 1)?;
-        inner += 1;
-        extent = join(extent, right_extent);
-        left = sum(alloc, extent, sign, left, right)?;
-        rest = end;
-    }
+    let (first, extent, rest) = read_prim(alloc, marks, depth)?;
+    read_sum_behind(alloc, first, extent, rest, depth)
+}
+
+/// The rest of a sum, behind its first operand.
+#[cycle(exprs)]
+fn read_sum_behind(
+    alloc: Global,
+    first: ExprNode,
+    first_extent: Span,
+    marks: Marks,
+    depth: u32,
+) -> Result<(ExprNode, Span, Marks), Fault>
+    requires { depth ≤ 64 }
+    ensures no_longer { IfOk result (λ x. length x.2.now ≤ length marks.now) }
+    ensures reads { (d : ℕ) → d ≡ depth → (k : Part ExprTree → State)
+        → Gives result (bounded 64 (more_sum d (part (expr_view first) first_extent) k)
+        (toks marks.now)) (λ x. bounded 64 (k (part (expr_view x.0) x.1)) (toks x.2.now)) }
+{
+    let Some((sign, after)) = sum_sign(marks, depth) else {
+        return Ok((first, first_extent, marks));
+    };
+    let (right, right_extent, rest) = read_prim(alloc, after, depth + 1)?;
+    let extent = join(first_extent, right_extent);
+    let left = sum(alloc, extent, sign, first, right)?;
+    read_sum_behind(alloc, left, extent, rest, depth + 1)
 }
 
 /// An operand of a sum.
@@ -312,7 +403,7 @@ fn read_prim(alloc: Global, marks: Marks, depth: u32) -> Result<(ExprNode, Span,
         PrimStart::Minus => {
             let (value, value_span, end) = number(rest, depth)?;
             let span = join(start_span, value_span);
-            Ok((negative(span, value), span, end))
+            Ok((negative(alloc, span, value)?, span, end))
         }
         PrimStart::Some => {
             let (_, inside) = symbol(rest, Symbol::OpenParen, depth)?;
@@ -330,7 +421,7 @@ fn read_prim(alloc: Global, marks: Marks, depth: u32) -> Result<(ExprNode, Span,
         PrimStart::Name(bytes) => {
             let root = ident(alloc, start_span, bytes)?;
             let (access, extent, end) = read_access(alloc, root, rest, depth)?;
-            Ok((expr::access(extent, access), extent, end))
+            Ok((expr::access(alloc, extent, access)?, extent, end))
         }
         PrimStart::Paren => {
             let (inside, _extent, close, end) = read_closed(alloc, rest, depth)?;

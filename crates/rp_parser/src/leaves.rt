@@ -68,7 +68,7 @@ pub(crate) fn leaf_node(alloc: Global, span: Span, leaf: Leaf) -> Result<ExprNod
     ensures { IfOk result (λ e. expr_view e ≡ ExprTree.node span (leaf_form leaf.entry)) }
 {
     Ok(match leaf {
-        Leaf::Number(value) => expr::int(span, value as i128),
+        Leaf::Number(value) => expr::int(alloc, span, value as i128)?,
         Leaf::Text(inside) => expr::str(span, meant_bytes(alloc, inside)?),
         Leaf::Truth(value) => expr::truth(span, value),
         Leaf::NoneWord => expr::none_word(span),
@@ -77,10 +77,11 @@ pub(crate) fn leaf_node(alloc: Global, span: Span, leaf: Leaf) -> Result<ExprNod
     })
 }
 
-pub(crate) fn negative(span: Span, value: u64) -> ExprNode
-    ensures { expr_view result ≡ ExprTree.node span (ExprForm.int (neg_ℤ (pos value))) }
+pub(crate) fn negative(alloc: Global, span: Span, value: u64) -> Result<ExprNode, Memory>
+    ensures { IfOk result (λ e. expr_view e
+        ≡ ExprTree.node span (ExprForm.int (neg_ℤ (pos value)))) }
 {
-    expr::int(span, -(value as i128))
+    expr::int(alloc, span, -(value as i128))
 }
 
 pub(crate) fn quantified(

@@ -1,7 +1,7 @@
 //! Tokens between the parts of an expression.
 
 ghost use Rattle.std.specs.Prelude.{List as Items};
-ghost use Rattle.std.specs.Prelude.{◌≡◌, ℕ, suc, ◌<◌, ◌≤◌, [], ◌∷◌, ◌++◌, false, IfOk, IfSome, MatchOption, length, Option as Optional, Some, None};
+ghost use Rattle.std.specs.Prelude.{◌≡◌, ℕ, suc, ◌<◌, ◌≤◌, [], ◌∷◌, ◌++◌, false, IsTrue, IfOk, IfSome, MatchOption, length, Option as Optional, Some, None};
 ghost use Rattle.rp_span.specs.declared.Span.{Span as SpanValue};
 ghost use Rattle.rp_grammar.specs.declared.terminal.Symbol.TheVariants as symbols;
 ghost use Rattle.rp_grammar.specs.Trees.{Ident as IdentTree, TypeTree, ExprTree, ExprForm, ExprArmTree, StepTree, AccessTree};
@@ -23,6 +23,49 @@ use rp_ast::build::expr;
 use rp_grammar::{CompareOp, Symbol, Word};
 use rp_span::Span;
 use std::alloc::Global;
+
+/// Whether the next token ends an expression, so that no operator goes on with its first operand.
+pub(crate) fn ends_expr(marks: Marks) -> bool
+    ensures no_and { IsTrue result → next_is symbols.And (toks marks.now) ≡ false }
+    ensures no_or { IsTrue result → next_is symbols.Or (toks marks.now) ≡ false }
+    ensures no_implies { IsTrue result → next_is symbols.Implies (toks marks.now) ≡ false }
+    ensures reads { IsTrue result → (d : ℕ) (e : Part ExprTree) (k : Part ExprTree → State)
+        → bounded 64 (more_and d e [] (λ f. more_or d f [] (λ a. more_implies d a k)))
+        (toks marks.now) ≡ bounded 64 (k e) (toks marks.now) }
+{
+    let Some((first, _)) = marks.split_first() else {
+        return false;
+    };
+    match first.kind {
+        Kind::Symbol(Symbol::CloseParen) => true,
+        Kind::Symbol(Symbol::CloseBracket) => true,
+        Kind::Symbol(Symbol::Comma) => true,
+        Kind::Symbol(Symbol::Semicolon) => true,
+        _ => false,
+    }
+}
+
+/// Whether the next token ends a comparison, so that no operator of a sum and no comparison goes
+/// on with its first operand.
+pub(crate) fn ends_comparison(marks: Marks) -> bool
+    ensures reads { IsTrue result → (d : ℕ) (a : Part ExprTree) (k : Part ExprTree → State)
+        → bounded 64 (more_sum d a (λ b. more_cmp d b k)) (toks marks.now)
+        ≡ bounded 64 (k a) (toks marks.now) }
+{
+    let Some((first, _)) = marks.split_first() else {
+        return false;
+    };
+    match first.kind {
+        Kind::Symbol(Symbol::CloseParen) => true,
+        Kind::Symbol(Symbol::CloseBracket) => true,
+        Kind::Symbol(Symbol::Comma) => true,
+        Kind::Symbol(Symbol::Semicolon) => true,
+        Kind::Symbol(Symbol::And) => true,
+        Kind::Symbol(Symbol::Or) => true,
+        Kind::Symbol(Symbol::Implies) => true,
+        _ => false,
+    }
+}
 
 /// What follows `&&`, if that is next.
 pub(crate) fn and_sign(marks: Marks, depth: u32) -> Option<Marks>

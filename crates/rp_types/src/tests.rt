@@ -26,7 +26,7 @@ fn ident(alloc: Global, text: &[u8]) -> Result<Ident, Memory> {
 
 fn variable(alloc: Global, name: &[u8]) -> Result<ExprNode, Memory> {
     let path = expr::path(ident(alloc, name)?, List::new(alloc), None);
-    Ok(expr::access(NOWHERE, path))
+    expr::access(alloc, NOWHERE, path)
 }
 
 // parameters of the type `Bool`, each named by a letter

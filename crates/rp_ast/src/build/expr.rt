@@ -61,7 +61,7 @@ pub fn forall(
     ensures { IfOk result (λ x. expr_view x
         ≡ ExprTree.node span (ExprShape.forall (param_view variable) (expr_view body))) }
 {
-    let what = ExprForm::Forall(variable, Boxed::new(alloc, body)?);
+    let what = ExprForm::Forall(Boxed::new(alloc, variable)?, Boxed::new(alloc, body)?);
     Ok(ExprNode { span, what })
 }
 
@@ -74,7 +74,7 @@ pub fn exists(
     ensures { IfOk result (λ x. expr_view x
         ≡ ExprTree.node span (ExprShape.exists (param_view variable) (expr_view body))) }
 {
-    let what = ExprForm::Exists(variable, Boxed::new(alloc, body)?);
+    let what = ExprForm::Exists(Boxed::new(alloc, variable)?, Boxed::new(alloc, body)?);
     Ok(ExprNode { span, what })
 }
 
@@ -108,13 +108,11 @@ pub fn minus(alloc: Global, span: Span, left: ExprNode, right: ExprNode) -> Resu
     Ok(ExprNode { span, what })
 }
 
-pub fn int(span: Span, value: i128) -> ExprNode
-    ensures { expr_view result ≡ ExprTree.node span (ExprShape.int value) }
+pub fn int(alloc: Global, span: Span, value: i128) -> Result<ExprNode, Memory>
+    ensures { IfOk result (λ x. expr_view x ≡ ExprTree.node span (ExprShape.int value)) }
 {
-    ExprNode {
-        span,
-        what: ExprForm::Int(value),
-    }
+    let what = ExprForm::Int(Boxed::new(alloc, value)?);
+    Ok(ExprNode { span, what })
 }
 
 pub fn str(span: Span, meant: Bytes) -> ExprNode
@@ -192,13 +190,12 @@ pub fn match_(
     Ok(ExprNode { span, what })
 }
 
-pub fn access(span: Span, access: AccessNode) -> ExprNode
-    ensures { expr_view result ≡ ExprTree.node span (ExprShape.access (access_view access)) }
+pub fn access(alloc: Global, span: Span, access: AccessNode) -> Result<ExprNode, Memory>
+    ensures { IfOk result (λ x. expr_view x
+        ≡ ExprTree.node span (ExprShape.access (access_view access))) }
 {
-    ExprNode {
-        span,
-        what: ExprForm::Access(access),
-    }
+    let what = ExprForm::Access(Boxed::new(alloc, access)?);
+    Ok(ExprNode { span, what })
 }
 
 pub fn arm(pattern: PatternNode, body: ExprNode) -> ExprArm

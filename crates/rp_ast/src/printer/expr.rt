@@ -83,7 +83,7 @@ fn is_negative(what: &ExprForm) -> bool
         ExprForm::Compare(_, _, _) => false,
         ExprForm::Plus(_, _) => false,
         ExprForm::Minus(_, _) => false,
-        ExprForm::Int(n) => *n < 0,
+        ExprForm::Int(n) => *n.get() < 0,
         ExprForm::Str(_) => false,
         ExprForm::Truth(_) => false,
         ExprForm::NoneWord => false,
@@ -221,7 +221,7 @@ fn put_primary(out: &mut Vec<u8>, what: &ExprForm) -> Result<(), Memory>
         ++ followed (form_terminals (expr_form_view what.now))) }
 {
     match what {
-        ExprForm::Int(n) => put_number(out, *n),
+        ExprForm::Int(n) => put_number(out, *n.get()),
         ExprForm::Str(meant) => put_str(out, meant.as_slice()),
         ExprForm::Truth(true) => put_word(out, Word::True),
         ExprForm::Truth(false) => put_word(out, Word::False),

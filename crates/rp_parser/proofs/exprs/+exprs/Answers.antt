@@ -5,7 +5,7 @@ use Rattle.rp_grammar.specs.Trees.{ExprTree, ExprForm, ExprArmTree, AccessTree, 
 use Rattle.rp_grammar.specs.Parts.{Part, part, tree_of, join, built, in_parens}
 use Rattle.rp_grammar.specs.Exprs.{between}
 use Rattle.rp_ast.specs.View.{ident_view, pattern_view, expr_view, expr_arm_view, step_view}
-use Rattle.rp_tokens.specs.MachineStates.{want_symbol, stopping, more_and, more_or, more_sum, more_exprs, more_expr_arms, in_access}
+use Rattle.rp_tokens.specs.MachineStates.{want_symbol, stopping, more_and, more_or, more_implies, more_cmp, more_sum, more_exprs, more_expr_arms, in_access}
 use Rattle.rp_tokens.specs.MachineExprs.{want_bound, want_expr, want_closed, want_args, want_expr_arms, called_with}
 use Rattle.rp_tokens.specs.Machine.{bounded}
 use Rattle.rp_parser.specs.Marks.{toks}
@@ -55,22 +55,21 @@ read_steps-steps-preserved t c =
           ∙ ap (λ xs. bounded 64 (in_access d n xs c.join-extent-in-steps.result k) (toks c.in_ok-step.end.now)) (map_pushed step_view c.push-in-steps.new.self c.steps.steps c.in_ok-step.step c.in_ok-push-2.ensures.ok);
     }
 
-pub read_sum-operators-preserved : goal.read_sum-operators-preserved
-read_sum-operators-preserved t c =
-    let left = part (expr_view c.operators.left) c.operators.extent in
-    let right = part (expr_view c.in_ok-right.right) c.in_ok-right.right_extent in
-    record {
-      within = c.operators.invariant.within;
-      shallow = c.in_ok-right.ensures.shallow;
-      shorter = omega (arith, c.in_ok-right.ensures.shorter, c.in-Some.ensures.shorter, c.operators.invariant.shorter);
-      reads = λ d i h e k.
-          c.operators.invariant.reads d c.operators.inner h refl k
-          ∙ c.in-Some.ensures.reads c.operators.inner refl left k
-          ∙ c.in_ok-right.ensures.reads (suc c.operators.inner) (sym (add-one c.operators.inner)) (λ b. more_sum (suc c.operators.inner) (between (sum_form c.in-Some.sign) left b) k)
-          ∙ ap (λ v. bounded 64 (more_sum (suc c.operators.inner) (built v (sum_form c.in-Some.sign (expr_view c.operators.left) (expr_view c.in_ok-right.right))) k) (toks c.in_ok-right.end.now)) (sym c.join-extent.ensures)
-          ∙ ap (λ x. bounded 64 (more_sum (suc c.operators.inner) (part x c.join-extent.result) k) (toks c.in_ok-right.end.now)) (sym c.in_ok-left-2.ensures)
-          ∙ ap (λ n. bounded 64 (more_sum n (part (expr_view c.in_ok-left-2.left) c.join-extent.result) k) (toks c.in_ok-right.end.now)) (sym (add-one c.operators.inner) ∙ sym e);
-    }
+pub read_sum_behind-returns-clause-reads : goal.read_sum_behind-returns-clause-reads
+read_sum_behind-returns-clause-reads t c = λ d h k.
+    let deeper = ap suc h ∙ sym (add-one c.args.depth) in
+    let first = part (expr_view c.args.first) c.args.first_extent in
+    let form = sum_form c.in-Some.sign in
+    led_to _ _ _ _
+    (c.in-Some.ensures.reads d h first k
+    ∙ c.in_ok-right.ensures.reads (suc d) deeper (λ b. more_sum (suc d) (between form first b) k)
+    ∙ ap (λ v. bounded 64 (more_sum (suc d) (built v (form (expr_view c.args.first) (expr_view c.in_ok-right.right))) k) (toks c.in_ok-right.rest.now)) (sym c.join-extent.ensures)
+    ∙ ap (λ x. bounded 64 (more_sum (suc d) (part x c.join-extent.result) k) (toks c.in_ok-right.rest.now)) (sym c.in_ok-left.ensures))
+    (c.read_sum_behind.ensures.reads (suc d) deeper k)
+
+pub read_sum-returns-clause-reads : goal.read_sum-returns-clause-reads
+read_sum-returns-clause-reads t c = λ d h k.
+    led_to _ _ _ _ (c.in_ok-first.ensures.reads d h (λ a. more_sum d a k)) (c.read_sum_behind.ensures.reads d h k)
 
 pub read_or_chain-members-init : goal.read_or_chain-members-init
 read_or_chain-members-init t c =
@@ -172,9 +171,11 @@ read_operand-returns-in_ok-node-in-Quantifier-clause-reads t c = λ d h k.
 
 pub read_and-returns-clause-reads : goal.read_and-returns-clause-reads
 read_and-returns-clause-reads t c = λ d h k.
-    led_to _ _ _ _
-    (c.in_ok-first.ensures.reads d h (λ e. more_and d e [] k) ∙ c.in-Some.ensures.reads d h (part (expr_view c.in_ok-first.first) c.in_ok-first.first_extent) [] k)
-    (c.read_and_chain.ensures.reads d h k)
+    led_to _ _ _ _ (c.in_ok-first.ensures.reads d h (λ e. more_and d e [] k)) (c.read_and_behind.ensures.reads d h k)
+
+pub read_and_behind-returns-clause-reads : goal.read_and_behind-returns-clause-reads
+read_and_behind-returns-clause-reads t c = λ d h k.
+    led_to _ _ _ _ (c.in-Some.ensures.reads d h (part (expr_view c.args.first) c.args.first_extent) [] k) (c.read_and_chain.ensures.reads d h k)
 
 pub read_and_chain-returns-in_err-member-clause-reads : goal.read_and_chain-returns-in_err-member-clause-reads
 read_and_chain-returns-in_err-member-clause-reads t c = λ d h k.
@@ -183,11 +184,58 @@ read_and_chain-returns-in_err-member-clause-reads t c = λ d h k.
     let fault = c.in_err-member.ensures.reads d h (λ g. more_and d e ((es ++ f ∷ []) ++ g ∷ []) k) in
     led_to _ _ _ _ (reads d h k ∙ c.in-Some.ensures.reads d h e (es ++ f ∷ []) k) (search (rules, fault))
 
-pub read_or-returns-clause-reads : goal.read_or-returns-clause-reads
-read_or-returns-clause-reads t c = λ d h k.
+pub read_or_behind-returns-clause-reads : goal.read_or_behind-returns-clause-reads
+read_or_behind-returns-clause-reads t c = λ d h k.
     led_to _ _ _ _
-    (c.in_ok-first.ensures.reads d h (λ e. more_or d e [] k) ∙ c.in-Some.ensures.reads d h (part (expr_view c.in_ok-first.first) c.in_ok-first.first_extent) [] k)
+    (c.in_ok-member.ensures.reads d h (λ e. more_or d e [] k) ∙ c.in-Some.ensures.reads d h (part (expr_view c.in_ok-member.member) c.in_ok-member.extent) [] k)
     (c.read_or_chain.ensures.reads d h k)
+
+pub read_expr-returns-clause-reads : goal.read_expr-returns-clause-reads
+read_expr-returns-clause-reads t c = λ d h k.
+    led_to _ _ _ _
+    (c.in_ok-first.ensures.reads d h (λ e. more_and d e [] (λ f. more_or d f [] (λ a. more_implies d a k))))
+    (c.read_expr_behind.ensures.reads d h k)
+
+pub read_expr-returns-then-ends_expr-clause-reads : goal.read_expr-returns-then-ends_expr-clause-reads
+read_expr-returns-then-ends_expr-clause-reads t c = λ d h k.
+    c.in_ok-first.ensures.reads d h (λ e. more_and d e [] (λ f. more_or d f [] (λ a. more_implies d a k)))
+    ∙ c.if-ends_expr.ensures.reads refl d (part (expr_view c.in_ok-first.first) c.in_ok-first.extent) k
+
+pub read_expr_behind-returns-in_err-left-clause-reads : goal.read_expr_behind-returns-in_err-left-clause-reads
+read_expr_behind-returns-in_err-left-clause-reads t c = λ d h k.
+    let fault = c.in_err-left.ensures.reads d h (λ a. more_implies d a k) in
+    search (rules, fault)
+
+pub read_expr_behind-returns-in_default-clause-reads : goal.read_expr_behind-returns-in_default-clause-reads
+read_expr_behind-returns-in_default-clause-reads t c = λ d h k.
+    c.in_ok-left.ensures.reads d h (λ a. more_implies d a k)
+    ∙ c.in_default.ensures.reads d h (part (expr_view c.in_ok-left.left) c.in_ok-left.extent) k
+
+pub read_expr_behind-returns-in_err-right-clause-reads : goal.read_expr_behind-returns-in_err-right-clause-reads
+read_expr_behind-returns-in_err-right-clause-reads t c = λ d h k.
+    let deeper = ap suc h ∙ sym (add-one c.args.depth) in
+    let left = part (expr_view c.in_ok-left.left) c.in_ok-left.extent in
+    let fault = c.in_err-right.ensures.reads (suc d) deeper (λ b. k (between ExprForm.implies left b)) in
+    led_to _ _ _ _ (c.in_ok-left.ensures.reads d h (λ a. more_implies d a k) ∙ c.in-Some.ensures.reads d h left k) (search (rules, fault))
+
+pub read_expr_behind-returns-clause-reads : goal.read_expr_behind-returns-clause-reads
+read_expr_behind-returns-clause-reads t c = λ d h k.
+    let deeper = ap suc h ∙ sym (add-one c.args.depth) in
+    let left = part (expr_view c.in_ok-left.left) c.in_ok-left.extent in
+    let form = ExprForm.implies (expr_view c.in_ok-left.left) (expr_view c.in_ok-right.right) in
+    c.in_ok-left.ensures.reads d h (λ a. more_implies d a k)
+    ∙ c.in-Some.ensures.reads d h left k
+    ∙ c.in_ok-right.ensures.reads (suc d) deeper (λ b. k (between ExprForm.implies left b))
+    ∙ ap (λ p. bounded 64 (k p) (toks c.in_ok-right.end.now)) (ap (λ v. built v form) (sym c.join-span.ensures) ∙ ap (λ x. part x c.join-span.result) (sym c.in_ok-implies.ensures))
+
+pub read_comparison-returns-then-ends_comparison-clause-reads : goal.read_comparison-returns-then-ends_comparison-clause-reads
+read_comparison-returns-then-ends_comparison-clause-reads t c = λ d h k.
+    c.in_ok-first.ensures.reads d h (λ a. more_sum d a (λ b. more_cmp d b k))
+    ∙ c.if-ends_comparison.ensures.reads refl d (part (expr_view c.in_ok-first.first) c.in_ok-first.extent) k
+
+pub read_comparison-returns-clause-reads : goal.read_comparison-returns-clause-reads
+read_comparison-returns-clause-reads t c = λ d h k.
+    led_to _ _ _ _ (c.in_ok-first.ensures.reads d h (λ a. more_sum d a (λ b. more_cmp d b k))) (c.read_comparison_behind.ensures.reads d h k)
 
 pub read_or_chain-returns-in_err-member-clause-reads : goal.read_or_chain-returns-in_err-member-clause-reads
 read_or_chain-returns-in_err-member-clause-reads t c = λ d h k.

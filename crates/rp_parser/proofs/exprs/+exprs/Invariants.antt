@@ -3,8 +3,8 @@ use Rattle.rp_grammar.specs.declared.terminal.Symbol.TheVariants as symbol
 use Rattle.rp_grammar.specs.Trees.{Ident, ExprTree, ExprArmTree, AccessTree}
 use Rattle.rp_grammar.specs.Parts.{Part, part, trees_of, reach}
 use Rattle.rp_ast.specs.View.{expr_view, expr_arm_view, step_view}
-use Rattle.rp_tokens.specs.MachineStates.{State, want_operand, more_and, more_or, more_sum, more_exprs, more_expr_arms, in_access}
-use Rattle.rp_tokens.specs.MachineExprs.{want_andx, want_sum, want_exprs, want_expr_arms}
+use Rattle.rp_tokens.specs.MachineStates.{State, want_operand, more_and, more_or, more_exprs, more_expr_arms, in_access}
+use Rattle.rp_tokens.specs.MachineExprs.{want_andx, want_exprs, want_expr_arms}
 use Rattle.rp_tokens.specs.Machine.{bounded}
 use Rattle.rp_parser.specs.Marks.{toks, next_is}
 use Rattle.rp_parser.proofs.exprs.+exprs.Given as goal
@@ -21,11 +21,23 @@ decreases-read_comparison l = 10 * length l.marks.now + 2
 abbrev pub decreases-read_operand : goal.decreases-read_operand
 decreases-read_operand l = 10 * length l.marks.now + 3
 
+abbrev pub decreases-read_sum_behind : goal.decreases-read_sum_behind
+decreases-read_sum_behind l = 10 * length l.marks.now + 1
+
+abbrev pub decreases-read_comparison_behind : goal.decreases-read_comparison_behind
+decreases-read_comparison_behind l = 10 * length l.marks.now + 2
+
 abbrev pub decreases-read_and : goal.decreases-read_and
 decreases-read_and l = 10 * length l.marks.now + 4
 
-abbrev pub decreases-read_or : goal.decreases-read_or
-decreases-read_or l = 10 * length l.marks.now + 5
+abbrev pub decreases-read_and_behind : goal.decreases-read_and_behind
+decreases-read_and_behind l = 10 * length l.marks.now + 5
+
+abbrev pub decreases-read_or_behind : goal.decreases-read_or_behind
+decreases-read_or_behind l = 10 * length l.marks.now + 6
+
+abbrev pub decreases-read_expr_behind : goal.decreases-read_expr_behind
+decreases-read_expr_behind l = 10 * length l.marks.now + 7
 
 abbrev pub decreases-read_and_chain : goal.decreases-read_and_chain
 decreases-read_and_chain l = 10 * length l.marks.now + 4
@@ -89,17 +101,6 @@ invariant-read_and_chain-members l = record {
 
 abbrev pub decreases-read_and_chain-members : goal.decreases-read_and_chain-members
 decreases-read_and_chain-members l = length l.rest
-
-abbrev pub invariant-read_sum-operators : goal.invariant-read_sum-operators
-invariant-read_sum-operators l = record {
-  within : l.depth ≤ 64;
-  shallow : l.inner ≤ 64;
-  shorter : length l.rest < length l.fn.marks;
-  reads : (d i : ℕ) → d ≡ l.depth → i ≡ l.inner → (k : Part ExprTree → State) → bounded 64 (want_sum d k) (toks l.fn.marks) ≡ bounded 64 (more_sum i (part (expr_view l.left) l.extent) k) (toks l.rest);
-}
-
-abbrev pub decreases-read_sum-operators : goal.decreases-read_sum-operators
-decreases-read_sum-operators l = length l.rest
 
 abbrev pub invariant-read_exprs-members : goal.invariant-read_exprs-members
 invariant-read_exprs-members l = record {
