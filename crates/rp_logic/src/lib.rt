@@ -23,7 +23,7 @@ pub use negation::negate;
 pub use scope::Scope;
 pub use sig::Sig;
 pub use sort::{FnDecl, LogicCon, NewConst, Sort};
-pub use sorted::{has_sort, well_sorted};
+pub use sorted::{has_sort, head_sort, is_sorted_atom, well_sorted};
 pub use substitution::substitute;
 pub use term::{Term, copy_terms, same_terms};
 

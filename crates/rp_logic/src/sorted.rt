@@ -46,7 +46,9 @@ fn are_sorted(sig: &Sig, added: &[NewConst], scope: &Scope, formulas: &[Fml]) ->
     true
 }
 
-fn is_sorted_atom(sig: &Sig, added: &[NewConst], scope: &Scope, atom: &Atom) -> bool
+/// Whether the atom is over the signature, under quantifiers of these sorts, and with these
+/// constants beside the signature's.
+pub fn is_sorted_atom(sig: &Sig, added: &[NewConst], scope: &Scope, atom: &Atom) -> bool
     ensures { result ≡ test.atom_test (sig_view sig.now) added.now (scope_view scope.now) (atom_view atom.now) }
 {
     match atom {
@@ -178,7 +180,7 @@ fn is_sort(found: Option<u32>, sort: u32) -> bool
 
 /// The only sort that a term of this form can have.
 #[tactic(auto, using(crate::proofs::TermViews::term_views))]
-fn head_sort(sig: &Sig, added: &[NewConst], scope: &Scope, t: &Term) -> Option<u32>
+pub fn head_sort(sig: &Sig, added: &[NewConst], scope: &Scope, t: &Term) -> Option<u32>
     ensures { result ≡ test.head_sort (sig_view sig.now) added.now (scope_view scope.now) (term_view t.now) }
 {
     match t {

@@ -1,0 +1,6 @@
+pub mod Added
+pub mod Cases
+pub mod Checked
+pub mod Lists
+pub mod Sides
+pub mod Walks

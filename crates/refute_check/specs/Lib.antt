@@ -1,0 +1,6 @@
+pub mod Added
+pub mod Answers
+pub mod Conclusions
+pub mod Lent
+pub mod Replaced
+pub mod Waits

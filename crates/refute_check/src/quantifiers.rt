@@ -1,0 +1,73 @@
+//! Rules of quantifiers.
+ghost use Rattle.std.specs.Prelude.{◌≡◌, option_map};
+ghost use Rattle.rp_logic.specs.SigView.{sig_view};
+ghost use Rattle.rp_logic.specs.Views.{term_view};
+ghost use Rattle.refute_defs.specs.Views.{use_view};
+ghost use Rattle.refute_defs.specs.Children as spec;
+ghost use Rattle.refute_defs.specs.Constants.{is_new as spec_is_new};
+ghost use Rattle.refute_check.specs.Lent.{branch_view};
+ghost use Rattle.refute_check.specs.Conclusions.{concluded};
+
+use crate::branch::{OpenBranch, existential_at, universal_at};
+use crate::conclusion::Conclusion;
+use crate::lacks::each_lacks;
+use crate::shape::place_and_term;
+use crate::sorts::is_of_sort;
+use refute_defs::RuleUse;
+use rp_logic::{Sig, Term};
+
+/// Of an `All` and a term of its sort the instance.
+pub(crate) fn instantiate<'a>(
+    sig: &Sig,
+    b: &'a OpenBranch,
+    u: &'a RuleUse,
+) -> Option<Conclusion<'a>>
+    ensures { option_map concluded result
+        ≡ spec.instantiate (sig_view sig.now) (branch_view b.now) (use_view u.now) }
+{
+    let (p, t) = place_and_term(u)?;
+    let (sort, body) = universal_at(b, p)?;
+    if is_of_sort(sig, b, sort, t) {
+        Some(Conclusion::Instance { body, t })
+    } else {
+        None
+    }
+}
+
+#[tactic(auto, using(rp_logic::proofs::TermViews::term_views))]
+fn constant(t: &Term) -> Option<u32>
+    ensures { result ≡ spec.constant (term_view t.now) }
+{
+    match t {
+        Term::Var(_) => None,
+        Term::Const(c) => Some(*c),
+        Term::Fn(_, _) => None,
+        Term::Int(_) => None,
+        Term::Str(_) => None,
+        Term::Con(_, _) => None,
+        Term::Sel(_, _, _) => None,
+        Term::Plus(_, _) => None,
+    }
+}
+
+/// Whether the constant stands neither in the signature nor on the branch.
+fn is_new(sig: &Sig, b: &OpenBranch, c: u32) -> bool
+    ensures { result ≡ spec_is_new (sig_view sig.now) (branch_view b.now) c }
+{
+    sig.consts.count() <= c && each_lacks(c, b.formulas.as_slice())
+}
+
+/// Of an `Ex` and a new constant the instance, and the constant is brought.
+pub(crate) fn new_constant<'a>(sig: &Sig, b: &'a OpenBranch, u: &RuleUse) -> Option<Conclusion<'a>>
+    ensures { option_map concluded result
+        ≡ spec.new_constant (sig_view sig.now) (branch_view b.now) (use_view u.now) }
+{
+    let (p, t) = place_and_term(u)?;
+    let c = constant(t)?;
+    let (sort, body) = existential_at(b, p)?;
+    if is_new(sig, b, c) {
+        Some(Conclusion::Named { body, c, sort })
+    } else {
+        None
+    }
+}

@@ -1,0 +1,16 @@
+pub mod Additions
+pub mod Branches
+pub mod Children
+pub mod Closed
+pub mod Conclusions
+pub mod Constants
+pub mod NewTerms
+pub mod Numbers
+pub mod Parts
+pub mod Rows
+pub mod Rules
+pub mod Same
+pub mod Shapes
+pub mod Uses
+pub mod Verdicts
+pub mod Views
