@@ -11,3 +11,4 @@ pub mod NewestLemmas
 pub mod PickedLemmas
 pub mod SameLemmas
 pub mod TypeLemmas
+pub mod AskedLemmas

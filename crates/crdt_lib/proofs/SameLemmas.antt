@@ -24,7 +24,7 @@ same_bytes_itself [] = refl
 same_bytes_itself (x ∷ xs) = and_from (nat_eq x x) _ (eq-eqb x x refl) (same_bytes_itself xs)
 
 mutual
-  same_val_is : (a b : Val) → same_val a b ≡ true → a ≡ b
+  pub same_val_is : (a b : Val) → same_val a b ≡ true → a ≡ b
   same_val_is (Int n) (Int m) e = ap Int ((signed_Decides n m).0 e)
   same_val_is (Str a) (Str b) e = ap Str (same_bytes_is a b e)
   same_val_is (Atom s a) (Atom t b) e =
@@ -51,7 +51,7 @@ mutual
   same_vals_is _ _ e = absurd (true≢false (sym e))
 
 mutual
-  same_val_itself : (a : Val) → same_val a a ≡ true
+  pub same_val_itself : (a : Val) → same_val a a ≡ true
   same_val_itself (Int n) = (signed_Decides n n).1 refl
   same_val_itself (Str a) = same_bytes_itself a
   same_val_itself (Atom s a) = and_from (nat_eq s s) _ (eq-eqb s s refl) (eq-eqb a a refl)

@@ -67,6 +67,15 @@ goes_to_key ops depth k call =
 abbrev pub deletes : List OpDecl → ℕ → Val → Call → Bool
 deletes ops depth k call = op_is ops (λ op. nat_eq (length op.path) depth) call && does ops Delete k call
 
+abbrev pub own_of : Call → Option OpDecl → Option Val
+own_of call None = None
+own_of call (Some op) = slice_get call.args (keys_in op.path)
+
+-- the argument of a call behind the keys of its path
+abbrev pub own_argument : List OpDecl → Option Call → Option Val
+own_argument ops None = None
+own_argument ops (Some call) = own_of call (slice_get ops call.op)
+
 abbrev pub int_of : Option Val → ℤ
 int_of (Some (Int n)) = n
 int_of _ = pos 0

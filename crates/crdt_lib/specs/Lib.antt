@@ -7,8 +7,11 @@ pub mod Histories
 pub mod Meaning
 pub mod Members
 pub mod Newest
+pub mod Parts
 pub mod Picked
 pub mod Queries
 pub mod Rows
 pub mod SameValues
 pub mod Snapshots
+pub mod TruthRows
+pub mod Truths

@@ -15,6 +15,7 @@ mod row;
 mod snapshot;
 #[cfg(test)]
 mod tests;
+mod truths;
 mod view;
 
 pub use asked::Found;
@@ -27,4 +28,8 @@ pub use laws::{
 };
 pub use query::{holds, query_holds, query_value, value_of};
 pub use snapshot::is_snapshot;
+pub use truths::{
+    all_invocations, calls_have_operations, committed_calls, identifiers_below_the_universe,
+    numbers_without_a_range, orders, registers_and_matches,
+};
 pub use view::{ListView, View};

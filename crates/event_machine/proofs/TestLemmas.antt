@@ -3,7 +3,7 @@ use Rattle.std.proofs.Common.{◌≡◌, ℕ, zero, suc, Bool, true, false, ◌&
 use Rattle.std.specs.List.{list_any}
 use Rattle.std.proofs.lemmas.List.Folds.{list_any-append}
 use Rattle.std.proofs.lemmas.List.Elements.{All-nil, All-cons, All-head, All-tail}
-use Rattle.event_machine.specs.Truth.{truth}
+use Rattle.event_machine.specs.Propositions.{truth}
 use Rattle.event_machine.specs.Goals.{Choice, Goal, slots_of, IsAsChosen, IsFalseGoal}
 use Rattle.event_machine.specs.Tests.{all_values, same_truth, as_chosen, follows, is_false}
 

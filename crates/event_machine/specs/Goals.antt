@@ -1,13 +1,11 @@
--- The goals of a program: each assertion on each path.
+-- The goals of a program over truth values: each assertion on each path.
 use Rattle.std.specs.Prelude.{◌≡◌, ℕ, ◌+◌, Bool, true, false, if◌then◌else◌, List, [], ◌∷◌, ◌++◌, length, map, replicate, All, Option, Some}
 use Rattle.rp_span.specs.declared.Span.{Span}
-use Rattle.rp_value.specs.declared.tables.Ty.{Ty}
-use Rattle.rp_value.specs.declared.tables.Ty.TheVariants.{Datatype}
 use Rattle.rp_value.specs.Values.{Val}
 use Rattle.rp_lang.specs.Formulas.{Fo}
 use Rattle.rp_lang.specs.Programs.{Proc, Prog}
-use Rattle.event_machine.specs.Code.{Code, Done, Assert, Choose, codes}
-use Rattle.event_machine.specs.Truth.{truth, value_of}
+use Rattle.event_machine.specs.Checks.{Checks, Done, Assert, Choose, stmts_checks}
+use Rattle.event_machine.specs.Propositions.{truth, truth_val}
 use Rattle.event_machine.specs.Machine.{Label, Invoke, Local}
 
 -- A condition that a path has decided, with its truth there.
@@ -36,16 +34,16 @@ path goal = map branch goal.choices
 abbrev pub chosen : List Choice → Fo → Bool → List Choice
 chosen choices f holds = choices ++ record { condition = f; holds = holds } ∷ []
 
--- the assertions of a procedure's code behind these choices, depth first, the first branch first
-abbrev pub code_goals : ℕ → ℕ → List Choice → Code → List Goal
-code_goals proc params choices Done = []
-code_goals proc params choices (Assert at f next) =
-    record { proc = proc; params = params; choices = choices; at = at; asserted = f } ∷ code_goals proc params choices next
-code_goals proc params choices (Choose f then_ else_) =
-    code_goals proc params (chosen choices f true) then_ ++ code_goals proc params (chosen choices f false) else_
+-- the assertions of a procedure behind these choices, depth first, the first branch first
+abbrev pub check_goals : ℕ → ℕ → List Choice → Checks → List Goal
+check_goals proc params choices Done = []
+check_goals proc params choices (Assert at f next) =
+    record { proc = proc; params = params; choices = choices; at = at; asserted = f } ∷ check_goals proc params choices next
+check_goals proc params choices (Choose f then_ else_) =
+    check_goals proc params (chosen choices f true) then_ ++ check_goals proc params (chosen choices f false) else_
 
 abbrev pub proc_goals : ℕ → Proc → List Goal
-proc_goals proc q = code_goals proc (length q.params) [] (codes q.body Done)
+proc_goals proc q = check_goals proc (length q.params) [] (stmts_checks q.body Done)
 
 -- the goals of procedures that are numbered from `first` on
 abbrev pub goals_from : ℕ → List Proc → List Goal
@@ -57,7 +55,7 @@ goals p = goals_from 0 p.procs
 
 -- parameters with these truth values
 abbrev pub slots_of : List Bool → List (Option Val)
-slots_of values = map (λ b. Some (value_of b)) values
+slots_of values = map (λ b. Some (truth_val b)) values
 
 abbrev pub IsAsChosen : List Bool → Choice → Type 0
 IsAsChosen values choice = truth (slots_of values) choice.condition ≡ choice.holds
@@ -71,14 +69,6 @@ pub record Refutes (values : List Bool) (goal : Goal) : Type 0 where
 abbrev pub IsFalseGoal : Goal → Type 0
 IsFalseGoal goal = (values : List Bool) × Refutes values goal
 
--- `Bool` is datatype 0
-abbrev pub IsBool : Ty → Type 0
-IsBool ty = ty ≡ Datatype 0
-
--- every parameter is a truth value
-abbrev pub TakesTruthValues : Prog → Type 0
-TakesTruthValues p = All (λ q. All IsBool q.params) p.procs
-
 -- a false goal is named by the labels that show it: the invocation with the values, and Locals along the path
 abbrev pub refuting_labels : Goal → List Bool → ℕ → List Label
-refuting_labels goal values locals = Invoke goal.proc (map value_of values) ∷ replicate locals (Local 0)
+refuting_labels goal values locals = Invoke goal.proc (map truth_val values) ∷ replicate locals (Local 0)

@@ -1,7 +1,14 @@
 pub mod Code
-pub mod Truth
+pub mod States
+pub mod Fitting
 pub mod Machine
+pub mod WellFormed
+pub mod Growth
 pub mod Runs
+pub mod LocalSafety
+pub mod Propositions
+pub mod Checks
 pub mod Goals
 pub mod Tests
 pub mod Samples
+pub mod Worked

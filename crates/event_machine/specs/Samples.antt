@@ -3,6 +3,7 @@ use Rattle.std.specs.Prelude.{ℕ, suc, zero, ◌+◌, ◌-◌, List, [], ◌∷
 use Rattle.rp_span.specs.declared.Span.{Span}
 use Rattle.rp_value.specs.declared.tables.Ty.TheVariants.{Datatype}
 use Rattle.rp_lang.specs.Exprs.{Slot, Con, no_ex}
+use Rattle.rp_lang.specs.FirstForm.{over_truth_values}
 use Rattle.rp_lang.specs.Formulas.{Fo, Or, Not, Holds, no_fo, also_fo}
 use Rattle.rp_lang.specs.Stmts.{Sts, Assert, If, no_st, also_st}
 use Rattle.rp_lang.specs.Programs.{Proc, Prog}
@@ -10,17 +11,8 @@ use Rattle.rp_lang.specs.Programs.{Proc, Prog}
 abbrev pub span : ℕ → ℕ → Span
 span from to = record { from = from; to = to }
 
--- The rest of a program, which the machine doesn't read, is left empty.
 abbrev pub program : List Proc → Prog
-program procs = record {
-  types = record { atoms = []; datatypes = [] };
-  cons = record { cons = [] };
-  roots = [];
-  ops = [];
-  queries = [];
-  invs = [];
-  procs = procs;
-}
+program procs = over_truth_values procs
 
 -- the procedure `p` with the parameter `b: Bool`, from one place to another
 abbrev pub proc_of_b : ℕ → ℕ → Sts → Proc

@@ -1,7 +1,7 @@
 -- Whether a goal is false, by trying all values of the parameters.
 use Rattle.std.specs.Prelude.{ℕ, zero, suc, Bool, true, false, ◌&&◌, not, List, [], ◌∷◌, ◌++◌, map}
 use Rattle.std.specs.List.{list_any, list_all}
-use Rattle.event_machine.specs.Truth.{truth}
+use Rattle.event_machine.specs.Propositions.{truth}
 use Rattle.event_machine.specs.Goals.{Choice, Goal, slots_of}
 
 -- each row of so many truth values, once

@@ -3,7 +3,7 @@ ghost use Rattle.std.specs.Prelude.{◌≡◌, ℕ, [], ◌∷◌, ◌++◌, map
 ghost use Rattle.rp_value.specs.Values.{Atom, Con, no_val, also_val, true_val, false_val};
 ghost use Rattle.event_machine.specs.Machine.{Invoke, Local, Return, Fail, Check, ToLocal, ToReturn, Assertion, NoInvocation, NotRunning, WrongPoint, BadArgs, NotCommitted};
 ghost use Rattle.event_machine.specs.Runs.{outcome, Clean, ViolatedAt, RefusedAt};
-ghost use Rattle.event_machine.specs.Code.{Done, codes, paths};
+ghost use Rattle.event_machine.specs.Checks.{Done, stmts_checks, paths};
 ghost use Rattle.event_machine.specs.Goals.{goals, path};
 ghost use Rattle.event_machine.specs.Tests.{is_false};
 ghost use Rattle.event_machine.specs.Samples.{span, program, b, claims_b, tautology, ten_ifs, eleven_ifs, branches, never};
@@ -36,8 +36,8 @@ pub fn two_invocations()
 
 /// Ten choices in a row have 1,024 paths, and one around them has one more. Without an assertion there is no goal.
 pub fn rows_of_choices()
-    ensures ten { paths (codes ten_ifs.body Done) ≡ 1024 }
-    ensures around { paths (codes eleven_ifs.body Done) ≡ 1025 }
+    ensures ten { paths (stmts_checks ten_ifs.body Done) ≡ 1024 }
+    ensures around { paths (stmts_checks eleven_ifs.body Done) ≡ 1025 }
     ensures none { goals (program (ten_ifs ∷ [])) ≡ [] }
 {}
 

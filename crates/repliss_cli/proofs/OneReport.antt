@@ -1,17 +1,13 @@
 -- A text has one report: what it reads as and what its program is decide it.
-use Rattle.std.proofs.Common.{◌≡◌, ℕ, ◌≤◌, Bool, true, false, ◌&&◌, ◌==◌, nat_le, IsTrue, List, [], ◌∷◌, length, All, refl, sym, ap, subst, arith}
-use Rattle.std.specs.List.{list_all}
+use Rattle.std.proofs.Common.{◌≡◌, ℕ, ◌≤◌, List, [], ◌∷◌, length, All, refl, sym, ap, subst, arith}
 use Rattle.std.proofs.lemmas.List.Elements.{All-nil, All-cons, All-head, All-tail}
 use Rattle.rp_span.specs.Places.{place_of}
-use Rattle.rp_value.specs.declared.tables.Ty.{Ty}
-use Rattle.rp_value.specs.declared.tables.Ty.TheVariants.{Datatype}
 use Rattle.rp_grammar.specs.declared.LexFault.{LexFault}
 use Rattle.rp_grammar.specs.Trees.{DeclTree}
-use Rattle.rp_lang.specs.FirstForm.{IsFirstForm, is_bool, is_over_truth_values, are_distinct, names}
-use Rattle.rp_lang.specs.Programs.{Proc, Prog}
-use Rattle.rp_lang.proofs.ProgramLemmas.{proc_facts}
+use Rattle.rp_lang.specs.FirstForm.{IsFirstForm}
+use Rattle.rp_lang.specs.Programs.{Prog}
 use Rattle.event_machine.specs.Runs.{IsSafe}
-use Rattle.event_machine.specs.Goals.{Goal, goals, IsBool, IsFalseGoal, TakesTruthValues}
+use Rattle.event_machine.specs.Goals.{Goal, goals, IsFalseGoal}
 use Rattle.event_machine.proofs.FalseLemmas.{none_false}
 use Rattle.rp_types.specs.FirstProgram.{IsProgramOf}
 use Rattle.rp_verify.specs.Verdicts.{IsWithinLimits}
@@ -25,39 +21,6 @@ use Rattle.repliss_cli.proofs.Readings.{Reading, too_long, faulty, bad, too_deep
 -- a tree is one program
 abbrev pub OneProgram : Type 0
 OneProgram = (t : List DeclTree) (p q : Prog) → IsProgramOf t p → IsProgramOf t q → p ≡ q
-
--- ---- programs over truth values
-
-both : (a b : Bool) → IsTrue (a && b) → IsTrue a × IsTrue b
-both true true t = (t, t)
-both true false t = grind (arith, t)
-both false b t = grind (arith, t)
-
-number_zero : (n : ℕ) → IsTrue (n == 0) → n ≡ 0
-number_zero n t = grind arith
-
-bools : (types : List Ty) → IsTrue (list_all is_bool types) → All IsBool types
-bools [] all = All-nil IsBool
-bools (Datatype n ∷ types) all =
-    let parts = both (n == 0) (list_all is_bool types) all in
-    All-cons IsBool (Datatype n) types (ap Datatype (number_zero n parts.0)) (bools types parts.1)
-bools (ty ∷ types) all = grind (arith, all)
-
-abbrev HasBools : Proc → Type 0
-HasBools q = All IsBool q.params
-
-takes_procs : (procs : List Proc) → IsTrue (list_all is_over_truth_values procs) → All HasBools procs
-takes_procs [] all = All-nil HasBools
-takes_procs (q ∷ procs) all =
-    let parts = both (is_over_truth_values q) (list_all is_over_truth_values procs) all in
-    All-cons HasBools q procs (bools q.params (proc_facts q parts.0).bool_params) (takes_procs procs parts.1)
-
-pub takes_truth_values : (p : Prog) → IsFirstForm p → TakesTruthValues p
-takes_truth_values p form =
-    let few : Bool = nat_le (length p.procs) 64 in
-    let all : Bool = list_all is_over_truth_values p.procs in
-    let parts = both (few && all) (are_distinct (names p.procs)) form.procs in
-    takes_procs p.procs (both few all parts.0).1
 
 -- ---- lines of false goals
 
@@ -99,15 +62,15 @@ pub data OfReading (content : List ℕ) : Reading → Report → Type 0 where
   of_too_deep : OfReading content too_deep Depth
   of_tree : {t : List DeclTree} {r : Report} → OfTree content t r → OfReading content (tree t) r
 
-one_of_program : {content : List ℕ} {p : Prog} {r s : Report} → TakesTruthValues p → OfProgram content p r → OfProgram content p s → r ≡ s
-one_of_program takes (of_safe safe) (of_safe also) = refl
-one_of_program {p = p} takes (of_safe safe) (of_unsafe named some) = absurd (some (no_lines (none_false p takes safe) named))
-one_of_program {p = p} takes (of_unsafe named some) (of_safe safe) = absurd (some (no_lines (none_false p takes safe) named))
-one_of_program {p = p} takes (of_unsafe named some) (of_unsafe also others) = ap (λ lines. Unproved (length (goals p)) lines) (one_line_list named also)
+one_of_program : {content : List ℕ} {p : Prog} {r s : Report} → IsFirstForm p → OfProgram content p r → OfProgram content p s → r ≡ s
+one_of_program form (of_safe safe) (of_safe also) = refl
+one_of_program {p = p} form (of_safe safe) (of_unsafe named some) = absurd (some (no_lines (none_false p form safe) named))
+one_of_program {p = p} form (of_unsafe named some) (of_safe safe) = absurd (some (no_lines (none_false p form safe) named))
+one_of_program {p = p} form (of_unsafe named some) (of_unsafe also others) = ap (λ lines. Unproved (length (goals p)) lines) (one_line_list named also)
 
 one_of_tree : {content : List ℕ} {t : List DeclTree} {r s : Report} → OneProgram → OfTree content t r → OfTree content t s → r ≡ s
 one_of_tree {content = content} {t = t} {s = s} one (of_first {p = p} is of) (of_first {p = q} also and) =
-    one_of_program (takes_truth_values p is.program.plain) of (subst (λ p. OfProgram content p s) (sym (one t p q is.program also.program)) and)
+    one_of_program is.program.plain of (subst (λ p. OfProgram content p s) (sym (one t p q is.program also.program)) and)
 one_of_tree one (of_first {p = p} is of) (of_other none) = absurd (none p is)
 one_of_tree one (of_other none) (of_first {p = p} is of) = absurd (none p is)
 one_of_tree one (of_other none) (of_other also) = refl

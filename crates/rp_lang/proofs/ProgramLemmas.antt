@@ -2,26 +2,10 @@
 use Rattle.std.proofs.Common.{◌≡◌, ℕ, ◌≤◌, Bool, true, false, ◌&&◌, ◌==◌, nat_le, is_none, IsTrue, List, [], ◌∷◌, Some, zero, suc, length, map, slice_get, arith}
 use Rattle.std.specs.List.{list_all}
 use Rattle.rp_lang.specs.declared.proc.ProcDecl.{ProcDecl}
-use Rattle.rp_lang.specs.declared.program.Program.{Program}
-use Rattle.rp_lang.specs.FirstForm.{is_bool, has_bool_slots, has_few_statements, are_checking, is_over_truth_values, are_distinct, names, are_over_truth_values, IsFirstForm}
+use Rattle.rp_lang.specs.FirstForm.{is_bool, has_bool_slots, has_few_statements, are_checking, is_over_truth_values, are_distinct, names, are_over_truth_values}
 use Rattle.rp_lang.specs.Programs.{Proc}
 use Rattle.rp_lang.specs.Sizes.{sts_count}
-use Rattle.rp_lang.specs.Views.{root_view, inv_view, proc_view}
-use Rattle.rp_lang.specs.ProgramView.{program_view}
-
-pub first_form : (p : Program) → IsFirstForm (program_view p)
-first_form p = record {
-  parts = λ i. record {
-    types = p.only_bool i;
-    cons = p.only_truth_values i;
-    roots = map root_view (p.no_roots i);
-    ops = p.only_tx i;
-    queries = p.no_queries i;
-    invs = map inv_view (p.no_invs i);
-    procs = map proc_view p.procs;
-  };
-  procs = p.over_truth_values;
-}
+use Rattle.rp_lang.specs.Views.{proc_view}
 
 both : (a b : Bool) → IsTrue (a && b) → IsTrue a × IsTrue b
 both true true t = (t, t)

@@ -8,3 +8,15 @@ pub mod Programs
 pub mod Sizes
 pub mod Stmts
 pub mod Views
+pub mod Types
+pub mod Paths
+pub mod Typing
+pub mod Bounds
+pub mod Flow
+pub mod Blocks
+pub mod WellFormed
+pub mod Samples
+pub mod DraftView
+pub mod Frames
+pub mod UsesView
+pub mod Variants

@@ -160,7 +160,7 @@ fn has_name(procs: &[ProcDecl], name: &[u8]) -> bool
     false
 }
 
-fn have_distinct_names(procs: &[ProcDecl]) -> bool
+pub fn have_distinct_names(procs: &[ProcDecl]) -> bool
     ensures { result ≡ spec.are_distinct (spec.names (map proc_view procs.now)) }
 {
     let mut left = procs;

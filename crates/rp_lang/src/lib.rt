@@ -2,14 +2,22 @@
 #![tactic(auto)]
 
 mod crdt;
+mod draft;
+mod typing;
+mod frame;
+mod flow;
+mod bounds;
+mod blocks;
 mod event;
 mod expr;
 mod first_form;
 mod formula;
 mod goal;
 mod inv;
+mod laws;
 mod limit;
 mod op;
+mod paths;
 mod proc;
 mod program;
 mod query;
@@ -17,6 +25,8 @@ mod refusal;
 mod root;
 mod step;
 mod stmt;
+mod types;
+mod well_formed;
 
 pub use crdt::{Crdt, Field};
 pub use event::{Event, What};
@@ -24,6 +34,9 @@ pub use expr::Expr;
 pub use formula::{Arm, Formula};
 pub use goal::{GoalKind, GoalName};
 pub use inv::InvDecl;
+pub use laws::{
+    assignments, datatypes, integers, matches, operations, programs_over_sets, quantifiers, returning, slots_have_values, steps_on_paths,
+};
 pub use limit::LimitName;
 pub use op::{OpDecl, OpKind, PathStep};
 pub use proc::ProcDecl;

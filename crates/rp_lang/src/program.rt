@@ -1,17 +1,20 @@
 ghost use Rattle.std.specs.Prelude.{◌≡◌, ◌↔◌, [], ◌∷◌, map, IsTrue, IsSome, IfOk, IfSome};
 ghost use Rattle.rp_lang.specs.FirstForm as spec;
-ghost use Rattle.rp_lang.specs.Views.{proc_view};
+ghost use Rattle.rp_lang.specs.Views.{parts_view, proc_view};
+ghost use Rattle.rp_lang.specs.WellFormed.{is_well_formed};
 
+use crate::draft::Draft;
 use crate::first_form::are_over_truth_values;
 use crate::inv::InvDecl;
 use crate::op::{OpDecl, OpKind};
 use crate::proc::ProcDecl;
 use crate::query::QueryDecl;
 use crate::root::Root;
+use crate::well_formed::is_well_formed;
 use rp_value::{AtomType, ConDecl, ConTable, DataDecl, List, Memory, TypeTable, copy_bytes};
 use std::alloc::Global;
 
-/// A program over truth values: procedures of `Bool` parameters that branch and assert, and no data.
+/// A well-formed program: all numbers in it are in range, it is well typed, and it is within the limits.
 #[derive(Debug, Drop)]
 pub struct Program {
     pub types: TypeTable,
@@ -21,36 +24,64 @@ pub struct Program {
     pub queries: List<QueryDecl>,
     pub invs: List<InvDecl>,
     pub procs: List<ProcDecl>,
-    pub ghost only_bool: { types ≡ spec.bool_types },
-    pub ghost only_truth_values: { cons ≡ spec.bool_cons },
-    pub ghost no_roots: { roots ≡ [] },
-    pub ghost only_tx: { ops ≡ spec.tx ∷ [] },
-    pub ghost no_queries: { queries ≡ [] },
-    pub ghost no_invs: { invs ≡ [] },
-    pub ghost over_truth_values: { IsTrue (spec.are_over_truth_values (map proc_view procs)) },
+    pub ghost well_formed: { IsTrue (is_well_formed (parts_view types cons roots ops queries invs procs)) },
 }
 
 impl Program {
     ghost use Rattle.rp_lang.specs.ProgramView.{program_view};
 
-    /// The program of these procedures, where they are over truth values.
+    /// The program with these parts, where they are those of a well-formed one. It takes no memory.
+    pub fn new(
+        types: TypeTable,
+        cons: ConTable,
+        roots: List<Root>,
+        ops: List<OpDecl>,
+        queries: List<QueryDecl>,
+        invs: List<InvDecl>,
+        procs: List<ProcDecl>,
+    ) -> Option<Program>
+        ensures some { IsSome result ↔ IsTrue (is_well_formed (parts_view types cons roots ops queries invs procs)) }
+        ensures program { IfSome result (λ p. program_view p ≡ parts_view types cons roots ops queries invs procs) }
+    {
+        let draft = Draft {
+            types,
+            cons,
+            roots,
+            ops,
+            queries,
+            invs,
+            procs,
+        };
+        if !is_well_formed(&draft) {
+            return None;
+        }
+        Some(Program {
+            types: draft.types,
+            cons: draft.cons,
+            roots: draft.roots,
+            ops: draft.ops,
+            queries: draft.queries,
+            invs: draft.invs,
+            procs: draft.procs,
+        })
+    }
+
+    /// The program of these procedures, where they are over truth values: procedures of `Bool` parameters that branch
+    /// and assert, and no data.
     pub fn first_form(alloc: Global, procs: List<ProcDecl>) -> Result<Option<Program>, Memory>
         ensures some { IfOk result (λ found. IsSome found ↔ IsTrue (spec.are_over_truth_values (map proc_view procs))) }
         ensures program { IfOk result (λ found. IfSome found (λ p. program_view p ≡ spec.over_truth_values (map proc_view procs))) }
+        ensures form { IfOk result (λ found. IfSome found (λ p. spec.IsFirstForm (program_view p))) }
     {
         if !are_over_truth_values(procs.as_slice()) {
             return Ok(None);
         }
-        let mut ops = List::new(alloc);
-        ops.push(OpDecl {
-            root: 0,
-            path: List::new(alloc),
-            kind: OpKind::Tx,
-            args: List::new(alloc),
-        })?;
+        let types = bool_types(alloc)?;
+        let cons = bool_cons(alloc)?;
+        let ops = only_tx(alloc)?;
         Ok(Some(Program {
-            types: bool_types(alloc)?,
-            cons: bool_cons(alloc)?,
+            types,
+            cons,
             roots: List::new(alloc),
             ops,
             queries: List::new(alloc),
@@ -58,6 +89,19 @@ impl Program {
             procs,
         }))
     }
+}
+
+fn only_tx(alloc: Global) -> Result<List<OpDecl>, Memory>
+    ensures { IfOk result (λ ops. ops ≡ spec.tx ∷ []) }
+{
+    let mut ops = List::new(alloc);
+    ops.push(OpDecl {
+        root: 0,
+        path: List::new(alloc),
+        kind: OpKind::Tx,
+        args: List::new(alloc),
+    })?;
+    Ok(ops)
 }
 
 fn bool_types(alloc: Global) -> Result<TypeTable, Memory>

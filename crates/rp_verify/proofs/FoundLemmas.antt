@@ -6,9 +6,9 @@ use Rattle.std.proofs.lemmas.List.{length-append, map-append}
 use Rattle.std.proofs.lemmas.List.Folds.{list_all-append}
 use Rattle.rp_span.specs.declared.Span.{Span}
 use Rattle.rp_lang.specs.Formulas.{Fo}
-use Rattle.event_machine.specs.Code.{Code, Done, Assert, Choose}
-use Rattle.event_machine.specs.Truth.{truth}
-use Rattle.event_machine.specs.Goals.{Choice, Goal, branch, chosen, code_goals, slots_of}
+use Rattle.event_machine.specs.Checks.{Checks, Done, Assert, Choose}
+use Rattle.event_machine.specs.Propositions.{truth}
+use Rattle.event_machine.specs.Goals.{Choice, Goal, branch, chosen, check_goals, slots_of}
 use Rattle.event_machine.specs.Tests.{all_values, as_chosen, follows, is_false}
 use Rattle.rp_verify.specs.declared.verdict.Unproved.{Unproved}
 use Rattle.rp_verify.specs.Counted.{assertions}
@@ -19,13 +19,13 @@ use Rattle.rp_verify.proofs.PadLemmas.{padded, truth-padded}
 
 -- ---- numbers of goals
 
-pub length-code_goals : (proc params : ℕ) (choices : List Choice) (code : Code) → length (code_goals proc params choices code) ≡ assertions code
-length-code_goals proc params choices Done = refl
-length-code_goals proc params choices (Assert at f next) = let rest = length-code_goals proc params choices next in omega arith
-length-code_goals proc params choices (Choose f then_ else_) =
-    let first = length-code_goals proc params (chosen choices f true) then_ in
-    let second = length-code_goals proc params (chosen choices f false) else_ in
-    omega (arith, length-append (code_goals proc params (chosen choices f true) then_) (code_goals proc params (chosen choices f false) else_))
+pub length-check_goals : (proc params : ℕ) (choices : List Choice) (checks : Checks) → length (check_goals proc params choices checks) ≡ assertions checks
+length-check_goals proc params choices Done = refl
+length-check_goals proc params choices (Assert at f next) = let rest = length-check_goals proc params choices next in omega arith
+length-check_goals proc params choices (Choose f then_ else_) =
+    let first = length-check_goals proc params (chosen choices f true) then_ in
+    let second = length-check_goals proc params (chosen choices f false) else_ in
+    omega (arith, length-append (check_goals proc params (chosen choices f true) then_) (check_goals proc params (chosen choices f false) else_))
 
 pub unproved_from-append : (n : ℕ) (a b : List Goal) → unproved_from n (a ++ b) ≡ unproved_from n a ++ unproved_from (n + length a) b
 unproved_from-append n [] b = ap (λ k. unproved_from k b) (omega arith)
@@ -112,25 +112,25 @@ found_at-unproved proc params n choices at f =
 map-chosen : (choices : List Choice) (f : Fo) (holds : Bool) → map branch (chosen choices f holds) ≡ map branch choices ++ (if holds then 1 else 2) ∷ []
 map-chosen choices f holds = map-append branch choices (record { condition = f; holds = holds } ∷ [])
 
-pub found-unproved : (proc params n : ℕ) (choices : List Choice) (code : Code)
-    → found_in proc (map branch choices) n (rows_of choices params) code ≡ unproved_from n (code_goals proc params choices code)
+pub found-unproved : (proc params n : ℕ) (choices : List Choice) (checks : Checks)
+    → found_in proc (map branch choices) n (rows_of choices params) checks ≡ unproved_from n (check_goals proc params choices checks)
 found-unproved proc params n choices Done = refl
 found-unproved proc params n choices (Assert at f next) =
     ap (λ first. first ++ found_in proc (map branch choices) (n + 1) (rows_of choices params) next) (found_at-unproved proc params n choices at f)
     ∙ ap (λ rest. (if is_false (record { proc = proc; params = params; choices = choices; at = at; asserted = f }) then entry proc (map branch choices) n at ∷ [] else []) ++ rest)
     (found-unproved proc params (n + 1) choices next)
 found-unproved proc params n choices (Choose f then_ else_) =
-    let first : found_in proc (map branch choices ++ 1 ∷ []) n (filter (holds f) (rows_of choices params)) then_ ≡ unproved_from n (code_goals proc params (chosen choices f true) then_) =
+    let first : found_in proc (map branch choices ++ 1 ∷ []) n (filter (holds f) (rows_of choices params)) then_ ≡ unproved_from n (check_goals proc params (chosen choices f true) then_) =
     ap (λ path. found_in proc path n (filter (holds f) (rows_of choices params)) then_) (sym (map-chosen choices f true))
     ∙ (ap (λ rows. found_in proc (map branch (chosen choices f true)) n rows then_) (rows-true choices params f)
     ∙ found-unproved proc params n (chosen choices f true) then_) in
     let m = n + assertions then_ in
-    let second : found_in proc (map branch choices ++ 2 ∷ []) m (filter (fails f) (rows_of choices params)) else_ ≡ unproved_from m (code_goals proc params (chosen choices f false) else_) =
+    let second : found_in proc (map branch choices ++ 2 ∷ []) m (filter (fails f) (rows_of choices params)) else_ ≡ unproved_from m (check_goals proc params (chosen choices f false) else_) =
     ap (λ path. found_in proc path m (filter (fails f) (rows_of choices params)) else_) (sym (map-chosen choices f false))
     ∙ (ap (λ rows. found_in proc (map branch (chosen choices f false)) m rows else_) (rows-false choices params f)
     ∙ found-unproved proc params m (chosen choices f false) else_) in
     ap (λ a. a ++ found_in proc (map branch choices ++ 2 ∷ []) m (filter (fails f) (rows_of choices params)) else_) first
-    ∙ (ap (λ b. unproved_from n (code_goals proc params (chosen choices f true) then_) ++ b) second
-    ∙ (ap (λ k. unproved_from n (code_goals proc params (chosen choices f true) then_) ++ unproved_from (n + k) (code_goals proc params (chosen choices f false) else_))
-    (sym (length-code_goals proc params (chosen choices f true) then_))
-    ∙ sym (unproved_from-append n (code_goals proc params (chosen choices f true) then_) (code_goals proc params (chosen choices f false) else_))))
+    ∙ (ap (λ b. unproved_from n (check_goals proc params (chosen choices f true) then_) ++ b) second
+    ∙ (ap (λ k. unproved_from n (check_goals proc params (chosen choices f true) then_) ++ unproved_from (n + k) (check_goals proc params (chosen choices f false) else_))
+    (sym (length-check_goals proc params (chosen choices f true) then_))
+    ∙ sym (unproved_from-append n (check_goals proc params (chosen choices f true) then_) (check_goals proc params (chosen choices f false) else_))))

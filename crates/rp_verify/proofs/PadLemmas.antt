@@ -4,7 +4,7 @@ use Rattle.rp_value.specs.Values.{Val, false_val, also_val}
 use Rattle.rp_value.specs.Values as seen
 use Rattle.rp_lang.specs.Exprs.{Ex, Exs, Slot, Con, no_ex, also_ex}
 use Rattle.rp_lang.specs.Formulas.{Fo, Fos, And, Or, Not, Implies, Holds, no_fo, also_fo}
-use Rattle.event_machine.specs.Truth.{slot_value, value, values_of, is_true, truth, all_true, any_true}
+use Rattle.event_machine.specs.Propositions.{slot_value, value, values_of, is_true, truth, all_true, any_true}
 use Rattle.event_machine.specs.Goals.{slots_of}
 use Rattle.rp_verify.specs.Rows.{with_values}
 

@@ -7,7 +7,7 @@ use Rattle.std.proofs.lemmas.Option.{slice_get-map, slice_get-get_or}
 use Rattle.rp_lang.specs.declared.proc.ProcDecl.{ProcDecl}
 use Rattle.rp_lang.specs.Programs.{Proc}
 use Rattle.rp_lang.specs.Views.{proc_view}
-use Rattle.event_machine.specs.Code.{Done, codes}
+use Rattle.event_machine.specs.Checks.{Done, stmts_checks}
 use Rattle.event_machine.specs.Goals.{proc_goals, goals_from}
 use Rattle.event_machine.specs.Tests.{all_values, follows}
 use Rattle.rp_verify.specs.declared.verdict.Unproved.{Unproved}
@@ -15,7 +15,7 @@ use Rattle.rp_verify.specs.Counted.{proc_assertions}
 use Rattle.rp_verify.specs.Found.{found_in}
 use Rattle.rp_verify.specs.Verdicts.{proc_paths, HasFewPaths, IsFirstPast, unproved_from}
 use Rattle.rp_verify.proofs.PadLemmas.{padded}
-use Rattle.rp_verify.proofs.FoundLemmas.{length-code_goals, unproved_from-append, found-unproved}
+use Rattle.rp_verify.proofs.FoundLemmas.{length-check_goals, unproved_from-append, found-unproved}
 
 sum_by-cons : {A : Type 0} (f : A → ℕ) (x : A) (xs : List A) → sum_by f (x ∷ xs) ≡ f x + sum_by f xs
 sum_by-cons f x xs = sum_by-append f (x ∷ []) xs ∙ omega arith
@@ -23,7 +23,7 @@ sum_by-cons f x xs = sum_by-append f (x ∷ []) xs ∙ omega arith
 pub length-goals_from : (first : ℕ) (procs : List Proc) → length (goals_from first procs) ≡ sum_by proc_assertions procs
 length-goals_from first [] = refl
 length-goals_from first (q ∷ others) =
-    let here : length (proc_goals first q) ≡ proc_assertions q = length-code_goals first (length q.params) [] (codes q.body Done) in
+    let here : length (proc_goals first q) ≡ proc_assertions q = length-check_goals first (length q.params) [] (stmts_checks q.body Done) in
     let later = length-goals_from (first + 1) others in
     length-append (proc_goals first q) (goals_from (first + 1) others)
     ∙ (ap (λ n. n + length (goals_from (first + 1) others)) here ∙ (ap (λ n. proc_assertions q + n) later ∙ sym (sum_by-cons proc_assertions q others)))
@@ -90,10 +90,10 @@ room_more procs i q next new all within is more before = let split = sum_split p
 
 -- a walk with all rows finds a procedure's false goals
 pub found-proc : (number next : ℕ) (q : Proc)
-    → found_in number [] next (map padded (all_values (length q.params))) (codes q.body Done) ≡ unproved_from next (proc_goals number q)
+    → found_in number [] next (map padded (all_values (length q.params))) (stmts_checks q.body Done) ≡ unproved_from next (proc_goals number q)
 found-proc number next q =
-    ap (λ rows. found_in number [] next (map padded rows) (codes q.body Done)) (sym (filter-all (follows []) (all_values (length q.params)) (λ values. refl)))
-    ∙ found-unproved number (length q.params) next [] (codes q.body Done)
+    ap (λ rows. found_in number [] next (map padded rows) (stmts_checks q.body Done)) (sym (filter-all (follows []) (all_values (length q.params)) (λ values. refl)))
+    ∙ found-unproved number (length q.params) next [] (stmts_checks q.body Done)
 
 pub found_more : (procs : List ProcDecl) (i : ℕ) (q : ProcDecl) (next new : ℕ) (old list all : List Unproved) → i < length procs → q ≡ get_or procs i q
     → new ≡ next + proc_assertions (proc_view q)
@@ -103,7 +103,7 @@ pub found_more : (procs : List ProcDecl) (i : ℕ) (q : ProcDecl) (next new : �
 found_more procs i q next new old list all within is more found told =
     let later = map proc_view (drop (i + 1) procs) in
     let here = proc_goals i (proc_view q) in
-    let counted : next + length here ≡ new = ap (λ n. next + n) (length-code_goals i (length q.params) [] (codes (proc_view q).body Done)) ∙ sym more in
+    let counted : next + length here ≡ new = ap (λ n. next + n) (length-check_goals i (length q.params) [] (stmts_checks (proc_view q).body Done)) ∙ sym more in
     ap (λ list. list ++ unproved_from new (goals_from (i + 1) later)) found
     ∙ (append_assoc old (unproved_from next here) (unproved_from new (goals_from (i + 1) later))
     ∙ (ap (λ n. old ++ (unproved_from next here ++ unproved_from n (goals_from (i + 1) later))) (sym counted)

@@ -2,6 +2,7 @@
 use Rattle.std.proofs.Common.{◌≡◌, ℕ, ◌+◌, Bool, true, false, List, [], ◌∷◌, ◌++◌, All, refl}
 use Rattle.std.specs.Bool.{if◌then◌else◌}
 use Rattle.std.proofs.lemmas.List.Elements.{All-nil, All-cons}
+use Rattle.rp_lang.specs.FirstForm.{IsFirstForm}
 use Rattle.rp_lang.specs.Programs.{Prog}
 use Rattle.event_machine.specs.Runs.{IsSafe}
 use Rattle.event_machine.specs.Goals.{Goal, goals, IsFalseGoal}
@@ -23,5 +24,5 @@ none_found next (goal ∷ others) none = go (λ none. none_found (next + 1) othe
     go later true is none = cc
     go later false is none = All-cons IsRefuted goal others (λ bad. let yes = is_false-goal goal bad in cc) (later none)
 
-pub safe_none_found : (p : Prog) → unproved p ≡ [] → IsSafe p
-safe_none_found p none = safe_none_false p (none_found 1 (goals p) none)
+pub safe_none_found : (p : Prog) → IsFirstForm p → unproved p ≡ [] → IsSafe p
+safe_none_found p form none = safe_none_false p form (none_found 1 (goals p) none)

@@ -5,7 +5,7 @@ use Rattle.rp_lang.specs.declared.expr.Expr.{Expr}
 use Rattle.rp_lang.specs.declared.expr.Expr.TheVariants as made
 use Rattle.rp_lang.specs.Views.{expr_view, exprs_view}
 use Rattle.rp_lang.proofs.ExprViews.{expr_view-Slot, expr_view-Con}
-use Rattle.event_machine.specs.Truth.{slot_value, value, values_of, is_true}
+use Rattle.event_machine.specs.Propositions.{slot_value, value, values_of, is_true}
 use Rattle.event_machine.specs.Goals.{slots_of}
 
 slot_true : (values : List Bool) (slot : ℕ) → is_true (slot_value (slice_get (slots_of values) slot)) ≡ unwrap_or (slice_get values slot) false

@@ -1,10 +1,10 @@
--- What a walk through code finds.
+-- What a walk through checks finds.
 use Rattle.std.specs.Prelude.{ℕ, ◌+◌, if◌then◌else◌, List, [], ◌∷◌, ◌++◌, filter, Bool, Some, None}
 use Rattle.std.specs.List.{list_all}
 use Rattle.rp_span.specs.declared.Span.{Span}
 use Rattle.rp_lang.specs.declared.goal.GoalKind.TheVariants as kind
 use Rattle.rp_lang.specs.Formulas.{Fo}
-use Rattle.event_machine.specs.Code.{Code, Done, Assert, Choose}
+use Rattle.event_machine.specs.Checks.{Checks, Done, Assert, Choose}
 use Rattle.rp_verify.specs.declared.verdict.Unproved.{Unproved}
 use Rattle.rp_verify.specs.Counted.{assertions}
 use Rattle.rp_verify.specs.Rows.{holds, fails}
@@ -17,8 +17,8 @@ entry proc path n at = record { goal = n; name = record { kind = kind.Assert; pr
 abbrev pub found_at : ℕ → List ℕ → ℕ → List (List Bool) → Span → Fo → List Unproved
 found_at proc path n rows at f = if list_all (holds f) rows then [] else entry proc path n at ∷ []
 
--- the goals of code behind a path that fail at some of the rows that come there, numbered from n on
-abbrev pub found_in : ℕ → List ℕ → ℕ → List (List Bool) → Code → List Unproved
+-- the goals of checks behind a path that fail at some of the rows that come there, numbered from n on
+abbrev pub found_in : ℕ → List ℕ → ℕ → List (List Bool) → Checks → List Unproved
 found_in proc path n rows Done = []
 found_in proc path n rows (Assert at f next) = found_at proc path n rows at f ++ found_in proc path (n + 1) rows next
 found_in proc path n rows (Choose f then_ else_) =

@@ -1,7 +1,7 @@
 -- Rows of truth values, in which the first ones are the parameters'.
 use Rattle.std.specs.Prelude.{ℕ, zero, suc, Bool, not, List, [], ◌∷◌}
 use Rattle.rp_lang.specs.Formulas.{Fo}
-use Rattle.event_machine.specs.Truth.{truth}
+use Rattle.event_machine.specs.Propositions.{truth}
 use Rattle.event_machine.specs.Goals.{slots_of}
 
 -- the row with these values from a place on

@@ -3,7 +3,7 @@ use Rattle.std.specs.Prelude.{◌≡◌, ◌≢◌, ℕ, ◌+◌, ◌≤◌, ◌
 use Rattle.rp_lang.specs.declared.goal.GoalName.{GoalName}
 use Rattle.rp_lang.specs.declared.goal.GoalKind.TheVariants as kind
 use Rattle.rp_lang.specs.Programs.{Proc, Prog}
-use Rattle.event_machine.specs.Code.{Done, codes, paths}
+use Rattle.event_machine.specs.Checks.{Done, stmts_checks, paths}
 use Rattle.event_machine.specs.Runs.{IsSafe}
 use Rattle.event_machine.specs.Goals.{Goal, goals, path}
 use Rattle.event_machine.specs.Tests.{is_false}
@@ -29,7 +29,7 @@ unproved p = unproved_from 1 (goals p)
 
 -- the paths of a procedure
 abbrev pub proc_paths : Proc → ℕ
-proc_paths q = paths (codes q.body Done)
+proc_paths q = paths (stmts_checks q.body Done)
 
 abbrev pub HasFewPaths : Proc → Type 0
 HasFewPaths q = proc_paths q ≤ 1024

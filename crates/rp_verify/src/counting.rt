@@ -1,5 +1,5 @@
 // How many paths and goals statements have.
-ghost use Rattle.event_machine.specs.Code.{Code, Done, code, codes};
+ghost use Rattle.event_machine.specs.Checks.{Checks, Done, stmt_checks, stmts_checks};
 ghost use Rattle.rp_lang.specs.Views.{stmt_view, stmts_view};
 ghost use Rattle.rp_verify.specs.Counted.{AreCounts};
 
@@ -9,7 +9,7 @@ use rp_lang::{Stmt, StmtKind};
 /// The counts of the statement where what follows has these.
 #[cycle(counts)]
 fn stmt_counts(stmt: &Stmt, behind: Counts) -> Counts
-    ensures { (next : Code) → AreCounts next behind → AreCounts (code (stmt_view stmt.now) next) result }
+    ensures { (next : Checks) → AreCounts next behind → AreCounts (stmt_checks (stmt_view stmt.now) next) result }
 {
     match &stmt.what {
         StmtKind::Assert(_) => behind.with_goal(),
@@ -22,7 +22,7 @@ fn stmt_counts(stmt: &Stmt, behind: Counts) -> Counts
 
 #[cycle(counts)]
 fn stmts_counts(stmts: &[Stmt], behind: Counts) -> Counts
-    ensures { (next : Code) → AreCounts next behind → AreCounts (codes (stmts_view stmts.now) next) result }
+    ensures { (next : Checks) → AreCounts next behind → AreCounts (stmts_checks (stmts_view stmts.now) next) result }
 {
     let mut counts = behind;
     let mut i = stmts.len();
@@ -35,7 +35,7 @@ fn stmts_counts(stmts: &[Stmt], behind: Counts) -> Counts
 
 /// The counts of a procedure's body.
 pub fn body_counts(body: &[Stmt]) -> Counts
-    ensures { AreCounts (codes (stmts_view body.now) Done) result }
+    ensures { AreCounts (stmts_checks (stmts_view body.now) Done) result }
 {
     stmts_counts(body, Counts::at_end())
 }

@@ -1,4 +1,5 @@
 ghost use Rattle.std.specs.Prelude.{◌≡◌, ◌+◌, ◌++◌, ◌≤◌, ◌<◌, ◌^◌, [], length, IfErr, IfOk, OnOk};
+ghost use Rattle.rp_lang.specs.FirstForm.{IsFirstForm};
 ghost use Rattle.rp_lang.specs.ProgramView.{program_view};
 ghost use Rattle.rp_lang.specs.Views.{proc_view};
 ghost use Rattle.event_machine.specs.Goals.{goals, proc_goals};
@@ -58,6 +59,7 @@ fn add_false_goals(
 
 /// The false goals of the program.
 fn false_goals(alloc: Global, program: &Program) -> Result<List<Unproved>, Memory>
+    requires first_form { IsFirstForm (program_view program.now) }
     requires few { length (goals (program_view program.now)) ≤ 2048 }
     ensures { IfOk result (λ list. list ≡ unproved (program_view program.now)) }
 {
@@ -74,12 +76,13 @@ fn false_goals(alloc: Global, program: &Program) -> Result<List<Unproved>, Memor
     Ok(walk.list)
 }
 
-/// Tries each goal of the program at all truth values of the parameters.
+/// Tries each goal of a program over truth values at all truth values of the parameters.
 ///
 /// `Verified` comes only for a program that is safe in every run, and `Unproved` has exactly the goals that are false,
 /// at least one. `Paths` names the first procedure with more than 1,024 paths; `Goals` says that no procedure has, and
 /// that there are more than 2,048 goals.
 pub fn verify(alloc: Global, program: &Program) -> Result<Verdict, GoalErr>
+    requires first_form { IsFirstForm (program_view program.now) }
     ensures within { IfOk result (λ _. IsWithinLimits (program_view program.now)) }
     ensures says { IfOk result (Says (program_view program.now)) }
     ensures past { IfErr result (IsPast (program_view program.now)) }

@@ -1,4 +1,8 @@
 // Small programs, with the goals that people find false.
+ghost use Rattle.std.specs.Prelude.{IfOk, IfSome};
+ghost use Rattle.rp_lang.specs.FirstForm.{IsFirstForm};
+ghost use Rattle.rp_lang.specs.ProgramView.{program_view};
+
 use crate::{GoalErr, Unproved, Verdict, verify};
 use rp_lang::{Expr, Formula, GoalKind, ProcDecl, Program, Stmt, StmtKind};
 use rp_span::Span;
@@ -36,7 +40,9 @@ fn one(alloc: Global, stmt: Stmt) -> Result<List<Stmt>, Memory> {
 }
 
 // The program of one procedure `p(b: Bool)` with this body.
-fn program(alloc: Global, body: List<Stmt>) -> Result<Option<Program>, Memory> {
+fn program(alloc: Global, body: List<Stmt>) -> Result<Option<Program>, Memory>
+    ensures { IfOk result (λ found. IfSome found (λ p. IsFirstForm (program_view p))) }
+{
     let mut params = List::new(alloc);
     params.push(Ty::Datatype(0))?;
     let mut slots = List::new(alloc);

@@ -1,6 +1,6 @@
 // The truth of formulas at truth values of the parameters.
 ghost use Rattle.std.specs.Prelude.{◌≡◌, slice_get, unwrap_or, false};
-ghost use Rattle.event_machine.specs.Truth.{truth, all_true, any_true, value, is_true};
+ghost use Rattle.event_machine.specs.Propositions.{truth, all_true, any_true, value, is_true};
 ghost use Rattle.event_machine.specs.Goals.{slots_of};
 ghost use Rattle.rp_lang.specs.Views.{expr_view};
 ghost use Rattle.rp_lang.specs.Views.{formula_view, formulas_view};

@@ -1,10 +1,10 @@
 ghost use Rattle.std.specs.Prelude.{◌≡◌, ◌+◌, ◌<◌, ◌^◌, ◌++◌, [], ◌∷◌, OnOk, IfOk};
-ghost use Rattle.event_machine.specs.Code.{Done, code, codes};
+ghost use Rattle.event_machine.specs.Checks.{Done, stmt_checks, stmts_checks};
 ghost use Rattle.rp_lang.specs.Views.{formula_view, stmt_view, stmts_view};
 ghost use Rattle.rp_verify.specs.Counted.{assertions};
 ghost use Rattle.rp_verify.specs.Followed.{followed};
 ghost use Rattle.rp_verify.specs.Found.{found_at};
-ghost use Rattle.rp_verify.specs.Left.{left_code};
+ghost use Rattle.rp_verify.specs.Left.{left_checks};
 
 use crate::left::Left;
 use crate::rows::{Row, divided, holds_at_all};
@@ -14,7 +14,7 @@ use rp_span::Span;
 use rp_value::{List, Memory, copy_list};
 use std::alloc::Global;
 
-/// A walk through the code of procedures, and the goals that it found false.
+/// A walk through the checks of procedures, and the goals that it found false.
 #[derive(Drop)]
 pub struct Walk {
     /// The procedure, and the choices on the way to where the walk stands.
@@ -67,8 +67,8 @@ impl Walk {
         left: &Left,
         rows: &[Row],
     ) -> Result<(), Memory>
-        requires room { self.old.next + assertions (codes (stmts_view stmts.now) (left_code left.now)) < 2 ^ 32 }
-        ensures { OnOk result (self.new ≡ followed self.old rows.now (codes (stmts_view stmts.now) (left_code left.now))) }
+        requires room { self.old.next + assertions (stmts_checks (stmts_view stmts.now) (left_checks left.now)) < 2 ^ 32 }
+        ensures { OnOk result (self.new ≡ followed self.old rows.now (stmts_checks (stmts_view stmts.now) (left_checks left.now))) }
     {
         match stmts.split_first() {
             Some((first, others)) => self.follow_stmt(alloc, first, others, left, rows),
@@ -86,8 +86,8 @@ impl Walk {
         body: &List<Stmt>,
         rows: &[Row],
     ) -> Result<(), Memory>
-        requires room { self.old.next + assertions (codes (stmts_view body.now) Done) < 2 ^ 32 }
-        ensures { OnOk result (self.new ≡ followed self.old rows.now (codes (stmts_view body.now) Done)) }
+        requires room { self.old.next + assertions (stmts_checks (stmts_view body.now) Done) < 2 ^ 32 }
+        ensures { OnOk result (self.new ≡ followed self.old rows.now (stmts_checks (stmts_view body.now) Done)) }
     {
         self.follow(alloc, body.as_slice(), &Left::Nothing, rows)
     }
@@ -101,8 +101,8 @@ impl Walk {
         left: &Left,
         rows: &[Row],
     ) -> Result<(), Memory>
-        requires room { self.old.next + assertions (code (stmt_view stmt.now) (codes (stmts_view others.now) (left_code left.now))) < 2 ^ 32 }
-        ensures { OnOk result (self.new ≡ followed self.old rows.now (code (stmt_view stmt.now) (codes (stmts_view others.now) (left_code left.now)))) }
+        requires room { self.old.next + assertions (stmt_checks (stmt_view stmt.now) (stmts_checks (stmts_view others.now) (left_checks left.now))) < 2 ^ 32 }
+        ensures { OnOk result (self.new ≡ followed self.old rows.now (stmt_checks (stmt_view stmt.now) (stmts_checks (stmts_view others.now) (left_checks left.now)))) }
     {
         match &stmt.what {
             StmtKind::Assert(formula) => {
@@ -129,9 +129,9 @@ impl Walk {
         left: &Left,
         rows: &[Row],
     ) -> Result<(), Memory>
-        requires room { self.old.next + assertions (codes (stmts_view branch.now) (left_code left.now)) < 2 ^ 32 }
+        requires room { self.old.next + assertions (stmts_checks (stmts_view branch.now) (left_checks left.now)) < 2 ^ 32 }
         ensures { let behind = record self.old { path = self.old.path ++ choice ∷ [] } in
-            OnOk result (self.new ≡ record (followed behind rows.now (codes (stmts_view branch.now) (left_code left.now))) { path = self.old.path }) }
+            OnOk result (self.new ≡ record (followed behind rows.now (stmts_checks (stmts_view branch.now) (left_checks left.now))) { path = self.old.path }) }
     {
         self.path.push(choice)?;
         self.follow(alloc, branch.as_slice(), left, rows)?;

@@ -20,7 +20,7 @@ pub add_false_goals-requires-clause-eight : goal.add_false_goals-requires-clause
 add_false_goals-requires-clause-eight c =
     let q = c.index-procs-i.result in
     let few : All HasFewParams c.as_slice-procs.result.now =
-    subst (All HasFewParams) (sym c.as_slice-procs.ensures.items) (few_params c.args.program.now.procs c.args.program.now.over_truth_values) in
+    subst (All HasFewParams) (sym c.as_slice-procs.ensures.items) (few_params c.args.program.now.procs c.requires.first_form.procs) in
     subst HasFewParams (sym c.index-procs-i.is) (few c.loop-i.i q (omega arith))
 
 pub loop-i-preserved : goal.loop-i-preserved

@@ -1,7 +1,7 @@
 use Rattle.std.proofs.Common.{◌≡◌, ◌∙◌, ◌<◌, ◌≤◌, List, min, map, All, length, ap, subst, arith}
 use Rattle.rp_lang.specs.declared.proc.ProcDecl.{ProcDecl}
 use Rattle.rp_lang.specs.Views.{proc_view, stmts_view}
-use Rattle.event_machine.specs.Code.{Done, codes, paths}
+use Rattle.event_machine.specs.Checks.{Done, stmts_checks, paths}
 use Rattle.event_machine.specs.Goals.{goals_from}
 use Rattle.rp_verify.specs.Counted.{assertions, proc_assertions}
 use Rattle.rp_verify.specs.Verdicts.{proc_paths, HasFewPaths, IsFirstPast}
@@ -12,7 +12,7 @@ pub returns-then-counts-gt-MOST_PATHS-clause-past : goal.returns-then-counts-gt-
 returns-then-counts-gt-MOST_PATHS-clause-past c =
     let q = c.index-procs-i.result in
     let counted : c.body_counts-counts.result.paths ≡ min (proc_paths (proc_view q)) 1025 =
-    c.body_counts-counts.ensures.of_paths ∙ ap (λ body. min (paths (codes (stmts_view body) Done)) 1025) c.as_slice.ensures.items in
+    c.body_counts-counts.ensures.of_paths ∙ ap (λ body. min (paths (stmts_checks (stmts_view body) Done)) 1025) c.as_slice.ensures.items in
     subst (λ (procs : List ProcDecl). IsFirstPast (map proc_view procs) c.loop-i.i) c.as_slice-procs.ensures.items
     (first_past c.as_slice-procs.result.now c.loop-i.i q (omega arith) c.index-procs-i.is (omega arith) c.loop-i.invariant.few)
 
@@ -22,9 +22,9 @@ loop-i-preserved c =
     let q = c.index-procs-i.result in
     let counts = c.body_counts-counts.result in
     let paths_counted : counts.paths ≡ min (proc_paths (proc_view q)) 1025 =
-    c.body_counts-counts.ensures.of_paths ∙ ap (λ body. min (paths (codes (stmts_view body) Done)) 1025) c.as_slice.ensures.items in
+    c.body_counts-counts.ensures.of_paths ∙ ap (λ body. min (paths (stmts_checks (stmts_view body) Done)) 1025) c.as_slice.ensures.items in
     let goals_counted : counts.goals ≡ min (proc_assertions (proc_view q)) 2049 =
-    c.body_counts-counts.ensures.of_goals ∙ ap (λ body. min (assertions (codes (stmts_view body) Done)) 2049) c.as_slice.ensures.items in
+    c.body_counts-counts.ensures.of_goals ∙ ap (λ body. min (assertions (stmts_checks (stmts_view body) Done)) 2049) c.as_slice.ensures.items in
     let few : HasFewPaths (proc_view q) = omega arith in
     record {
       few = few_more procs c.loop-i.i q (omega arith) c.index-procs-i.is few c.loop-i.invariant.few;

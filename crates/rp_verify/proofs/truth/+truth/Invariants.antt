@@ -1,5 +1,5 @@
 use Rattle.std.proofs.Common.{◌≡◌, drop}
-use Rattle.event_machine.specs.Truth.{all_true, any_true}
+use Rattle.event_machine.specs.Propositions.{all_true, any_true}
 use Rattle.event_machine.specs.Goals.{slots_of}
 use Rattle.rp_lang.specs.Views.{formulas_view}
 use Rattle.rp_verify.proofs.truth.+truth.Given as goal
