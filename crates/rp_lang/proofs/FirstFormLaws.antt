@@ -1,5 +1,5 @@
 -- Programs over truth values are well formed.
-use Rattle.std.proofs.Common.{◌≡◌, ℕ, zero, suc, ◌+◌, ◌≤◌, Bool, true, false, not, ◌&&◌, ◌||◌, ◌==◌, nat_lt, nat_le, nat_eq, is_none, max, IsTrue, List, [], ◌∷◌, map, length, Option, Some, None, slice_get, refl, sym, ap, subst, ◌∙◌, arith}
+use Rattle.std.proofs.Common.{◌≡◌, ℕ, zero, suc, ◌+◌, ◌≤◌, Bool, true, false, not, ◌&&◌, ◌||◌, ◌==◌, nat_lt, nat_le, is_none, IsTrue, List, [], ◌∷◌, map, length, Option, Some, None, slice_get, refl, sym, ap, subst, ◌∙◌, arith}
 use Rattle.std.specs.List.{list_all}
 use Rattle.rp_value.specs.declared.tables.Ty.{Ty}
 use Rattle.rp_value.specs.declared.tables.Ty.TheVariants.{Datatype}
@@ -11,23 +11,24 @@ use Rattle.rp_lang.specs.declared.query.QueryDecl.{QueryDecl}
 use Rattle.rp_lang.specs.declared.inv.InvDecl.{InvDecl}
 use Rattle.rp_lang.specs.declared.proc.ProcDecl.{ProcDecl}
 use Rattle.rp_lang.specs.Views.{root_view, inv_view, proc_view, parts_view}
-use Rattle.rp_lang.specs.Exprs.{Ex, Slot, Con, no_ex, also_ex}
+use Rattle.rp_lang.specs.Exprs.{Ex, Slot, Con, no_ex}
 use Rattle.rp_lang.specs.Formulas as fo
 use Rattle.rp_lang.specs.Formulas.{Fo, Fos, no_fo, also_fo}
 use Rattle.rp_lang.specs.Stmts.{St, If, Assert, Sts, no_st, also_st}
 use Rattle.rp_lang.specs.Programs.{Proc, Prog}
-use Rattle.rp_lang.specs.Sizes.{ex_nodes, fo_depth, fo_nodes, fos_nodes, sts_count}
+use Rattle.rp_lang.specs.Sizes.{fo_depth, fo_nodes, fos_nodes}
 use Rattle.rp_lang.specs.FirstForm as form
 use Rattle.rp_lang.specs.FirstForm.{bool_types, bool_cons, over_truth_values, is_bool, is_truth, has_two, is_propositional, are_propositional, is_checking, are_checking, is_over_truth_values, are_distinct, names, are_over_truth_values}
 use Rattle.rp_lang.specs.Types.{bool_ty, is_ty, are_ordinary}
 use Rattle.rp_lang.specs.Typing as typing
 use Rattle.rp_lang.specs.Typing.{Frame, is_typed, are_typed}
-use Rattle.rp_lang.specs.Bounds.{ex_weight, fo_weight, fos_weight, fo_binders, fos_binders}
+use Rattle.rp_lang.specs.Bounds.{fo_weight, fos_weight, fo_binders, fos_binders}
 use Rattle.rp_lang.specs.Blocks as blocks
 use Rattle.rp_lang.specs.Blocks.{behind, is_stmt, are_stmts, is_return, is_end}
 use Rattle.rp_lang.specs.Flow.{sets}
+use Rattle.rp_lang.specs.Names.{are_no_cons, have_names}
 use Rattle.rp_lang.specs.WellFormed.{begins, at_start, is_result, is_procedure, is_well_formed}
-use Rattle.rp_lang.proofs.ProgramLemmas.{IsOverTruthValues, proc_facts}
+use Rattle.rp_lang.proofs.ProgramLemmas.{proc_facts}
 
 both : (a b : Bool) → a && b ≡ true → (a ≡ true) × (b ≡ true)
 both true b t = (refl, t)
@@ -136,8 +137,8 @@ fine_condition procs frame params reads f t =
     let sizes = both (nat_le (fo_depth f) 64) (nat_le (fo_nodes f) 100000) sized.0 in
     let is = fine procs frame params reads f sized.1 in
     and_true _ _
-      (and_true _ _ (and_true _ _ sizes.0 (within_zero _ is.binders)) (ap (λ n. nat_le n 100000) is.nodes ∙ sizes.1))
-      is.typed
+    (and_true _ _ (and_true _ _ sizes.0 (within_zero _ is.binders)) (ap (λ n. nat_le n 100000) is.nodes ∙ sizes.1))
+    is.typed
 
 -- # Statements
 
@@ -147,9 +148,11 @@ mutual
   fine_stmt procs frame params reads (Assert at f) t = (fine_condition procs frame params reads f t, refl)
   fine_stmt procs frame params reads (If at f then_ else_) t =
       let parts = both (form.is_condition params f && are_checking params then_) (are_checking params else_) t in
-      let firsts = both (form.is_condition params f) (are_checking params then_) parts.0 in
-      (and_true _ _ (and_true _ _ (fine_condition procs frame params reads f firsts.0) (fine_stmts procs frame params reads then_ firsts.1))
-        (fine_stmts procs frame params reads else_ parts.1), refl)
+      let firsts = both (form.is_condition params f) (are_checking params then_) parts.0 in (
+        and_true _ _ (and_true _ _ (fine_condition procs frame params reads f firsts.0) (fine_stmts procs frame params reads then_ firsts.1))
+            (fine_stmts procs frame params reads else_ parts.1),
+        refl,
+      )
   fine_stmt procs frame params reads _ t = cc
 
   fine_stmts : (procs : List Proc) (frame : Frame) (params : ℕ) → Reads frame params → (ss : Sts) → are_checking params ss ≡ true
@@ -159,7 +162,7 @@ mutual
       let parts = both (is_checking params st) (are_checking params rest) t in
       let first = fine_stmt procs frame params reads st parts.0 in
       and_true _ _ (and_true _ _ (stays (is_end rest) (is_return st) first.1) first.0)
-        (fine_stmts procs (behind st frame) params (reads_behind st frame params reads) rest parts.1)
+      (fine_stmts procs (behind st frame) params (reads_behind st frame params reads) rest parts.1)
 
 -- # Procedures
 
@@ -192,15 +195,15 @@ fine_proc procs q t =
     let is = proc_facts q t in
     let p = over_truth_values procs in
     let reads : Reads (at_start q) (length q.params) = λ s within.
-      (within, slot_bool q.slots s is.bool_slots (ap (λ n. nat_lt s n) is.as_many_slots ∙ within)) in
+    (within, slot_bool q.slots s is.bool_slots (ap (λ n. nat_lt s n) is.as_many_slots ∙ within)) in
     let gives = none_is q.result is.no_result in
     and_true _ _ (and_true _ _ (and_true _ _ (and_true _ _ (and_true _ _
-      (begins_bool q.params q.slots is.bool_params is.bool_slots is.as_many_slots)
-      (ordinary_bool q.slots is.bool_slots))
-      (ap (λ found. is_result bool_types found) gives))
-      (within_200 _ is.few_statements))
-      (fine_stmts procs (at_start q) (length q.params) reads q.body is.checking))
-      (or_left _ _ is.no_result)
+    (begins_bool q.params q.slots is.bool_params is.bool_slots is.as_many_slots)
+    (ordinary_bool q.slots is.bool_slots))
+    (ap (λ found. is_result bool_types found) gives))
+    (within_200 _ is.few_statements))
+    (fine_stmts procs (at_start q) (length q.params) reads q.body is.checking))
+    (or_left _ _ is.no_result)
 
 fine_procs : (all procs : List Proc) → list_all is_over_truth_values procs ≡ true → list_all (is_procedure (over_truth_values all)) procs ≡ true
 fine_procs all [] t = refl
@@ -208,13 +211,21 @@ fine_procs all (q ∷ procs) t =
     let parts = both (is_over_truth_values q) (list_all is_over_truth_values procs) t in
     and_true _ _ (fine_proc all q parts.0) (fine_procs all procs parts.1)
 
+no_cons : (procs : List Proc) → are_no_cons (names procs) bool_cons.cons ≡ true
+no_cons [] = refl
+no_cons (q ∷ procs) = no_cons procs
+
+names_differ : (procs : List Proc) → are_distinct (names procs) ≡ true → have_names (over_truth_values procs) ≡ true
+names_differ procs distinct =
+    and_true _ _ (and_true _ _ (and_true _ _ (and_true _ _ (and_true _ _ distinct refl) refl) refl) (no_cons procs)) refl
+
 pub well_formed_over_truth_values : (procs : List Proc) → IsTrue (are_over_truth_values procs) → IsTrue (is_well_formed (over_truth_values procs))
 well_formed_over_truth_values procs t =
     let few : Bool = nat_le (length procs) 64 in
     let all : Bool = list_all is_over_truth_values procs in
     let whole = both (few && all) (are_distinct (names procs)) t in
     let parts = both few all whole.0 in
-    and_true _ _ (and_true _ _ parts.0 (fine_procs procs procs parts.1)) whole.1
+    and_true _ _ (and_true _ _ parts.0 (fine_procs procs procs parts.1)) (names_differ procs whole.1)
 
 -- these parts are those of a program over truth values
 pub parts_are : (types : TypeTable) (cons : ConTable) (roots : List Root) (ops : List OpDecl) (queries : List QueryDecl) (invs : List InvDecl) (procs : List ProcDecl)

@@ -1,5 +1,5 @@
 -- What each variant of what comes before is seen as, and the binders of each variant.
-use Rattle.std.proofs.Common.{◌≡◌, ◌≢◌, ◌-◌, ◌+◌, ◌<◌, ◌≤◌, ℕ, Bool, false, ◌||◌, nat_lt, List, [], ◌∷◌, zero, suc, length, slice_get, Option, Some, arith, refl, ap, ◌∙◌}
+use Rattle.std.proofs.Common.{◌≡◌, ◌≢◌, ◌-◌, ◌+◌, ℕ, Bool, false, ◌||◌, nat_lt, List, [], ◌∷◌, zero, suc, length, slice_get, arith, refl, ap, ◌∙◌}
 use Rattle.std.specs.Borrow.{Bor}
 use Rattle.rp_value.specs.declared.tables.Ty.{Ty}
 use Rattle.rp_lang.specs.declared.stmt.Stmt.{Stmt}

@@ -1,5 +1,5 @@
 -- Parts of a datatype, one datatype deeper.
-use Rattle.std.proofs.Common.{◌≡◌, ◌≢◌, ℕ, ◌+◌, ◌-◌, zero, suc, min, nat_le, Bool, arith, refl}
+use Rattle.std.proofs.Common.{◌≡◌, ◌≢◌, ℕ, ◌+◌, ◌-◌, zero, suc, min, nat_le, arith, refl}
 use Rattle.std.specs.Prelude.{sum_by}
 use Rattle.rp_value.specs.declared.tables.Ty.TheVariants.{Datatype}
 use Rattle.rp_value.specs.declared.tables.TypeTable.{TypeTable}

@@ -1,5 +1,5 @@
 -- Expressions that aren't as many as their types, and how many arms there are.
-use Rattle.std.proofs.Common.{◌≡◌, ◌≢◌, ℕ, suc, ◌+◌, Bool, true, false, ◌&&◌, List, [], ◌∷◌, length, arith, refl, ap}
+use Rattle.std.proofs.Common.{◌≡◌, ◌≢◌, suc, Bool, true, false, ◌&&◌, List, [], ◌∷◌, length, refl, ap}
 use Rattle.rp_value.specs.declared.tables.Ty.{Ty}
 use Rattle.rp_lang.specs.declared.expr.Expr.{Expr}
 use Rattle.rp_lang.specs.declared.formula.Arm.{Arm}
@@ -21,7 +21,7 @@ lengths_differ p frame binders [] (e ∷ es) h = refl
 lengths_differ p frame binders (t ∷ tys) [] h = refl
 lengths_differ p frame binders (t ∷ tys) (e ∷ es) h =
     and_false (is_ty (type_of p frame binders (expr_view e)) t) (have_types p frame binders tys (exprs_view es))
-      (lengths_differ p frame binders tys es (λ same. h (ap suc same)))
+    (lengths_differ p frame binders tys es (λ same. h (ap suc same)))
 
 pub arms_counted : (arms : List Arm) → length (arm_cons (arms_view arms)) ≡ length arms
 arms_counted [] = refl

@@ -1,5 +1,5 @@
 -- How much uses count, variant by variant.
-use Rattle.std.proofs.Common.{◌≡◌, ◌-◌, ◌<◌, ◌≤◌, ◌+◌, ℕ, List, [], ◌∷◌, ◌++◌, zero, suc, replicate, slice_get, Some, arith, refl, ap, ◌∙◌}
+use Rattle.std.proofs.Common.{◌≡◌, ◌-◌, ◌<◌, ◌≤◌, ℕ, List, [], ◌∷◌, ◌++◌, zero, suc, replicate, slice_get, Some, arith, refl, ap, ◌∙◌}
 use Rattle.std.specs.Borrow.{Bor}
 use Rattle.rp_lang.specs.declared.bounds.Uses.{Uses}
 use Rattle.rp_lang.specs.declared.bounds.Uses.TheVariants.{Closed, Quantified, Fields, outs-Closed, outs-Quantified, outs-Fields}

@@ -1,5 +1,5 @@
 -- Well typed statements.
-use Rattle.std.specs.Prelude.{ℕ, Bool, true, false, ◌&&◌, ◌||◌, not, nat_eq, nat_lt, List, [], ◌∷◌, length, Option, Some, None, slice_get, is_none}
+use Rattle.std.specs.Prelude.{ℕ, Bool, true, false, ◌&&◌, ◌||◌, not, nat_eq, nat_lt, List, [], ◌∷◌, length, Option, Some, slice_get, is_none}
 use Rattle.std.specs.List.{list_any}
 use Rattle.rp_value.specs.declared.tables.Ty.{Ty}
 use Rattle.rp_value.specs.declared.tables.Ty.TheVariants.{Atom}
@@ -7,7 +7,7 @@ use Rattle.rp_lang.specs.Exprs.{Ex, Exs}
 use Rattle.rp_lang.specs.Formulas.{Fo}
 use Rattle.rp_lang.specs.Stmts.{St, Put, Decide, New, Operate, If, Match, Atomic, Assert, Return, ReturnWith, Sts, no_st, also_st, StArms, no_st_arm, also_st_arm}
 use Rattle.rp_lang.specs.Programs.{Prog}
-use Rattle.rp_lang.specs.Types.{is_ty, agree, bool_ty, is_id_type, fields_of}
+use Rattle.rp_lang.specs.Types.{agree, bool_ty, is_id_type, fields_of}
 use Rattle.rp_lang.specs.Typing.{Frame, given, type_of, have_types, is_typed, are_cases, op_args}
 use Rattle.rp_lang.specs.Bounds.{is_small_ex, are_small_exs, is_small_fo}
 use Rattle.rp_lang.specs.Flow.{sets}

@@ -20,3 +20,4 @@ pub mod DraftView
 pub mod Frames
 pub mod UsesView
 pub mod Variants
+pub mod Names

@@ -1,5 +1,5 @@
 -- Replicated types of a program, and the operations and queries that they have at a path.
-use Rattle.std.specs.Prelude.{ℕ, zero, suc, Bool, true, false, ◌&&◌, ◌==◌, nat_le, if◌then◌else◌, List, [], ◌∷◌, length, Option, Some, None, option_and_then, slice_get}
+use Rattle.std.specs.Prelude.{ℕ, zero, suc, Bool, true, false, ◌&&◌, ◌==◌, nat_le, if◌then◌else◌, List, [], ◌∷◌, length, Option, Some, None, slice_get}
 use Rattle.rp_value.specs.declared.tables.Ty.{Ty}
 use Rattle.rp_value.specs.declared.tables.Ty.TheVariants.{Int}
 use Rattle.rp_value.specs.declared.tables.TypeTable.{TypeTable}
@@ -13,7 +13,8 @@ use Rattle.rp_lang.specs.declared.query.QueryDecl.{QueryDecl}
 use Rattle.rp_lang.specs.declared.query.QueryKind.{QueryKind}
 use Rattle.rp_lang.specs.declared.query.QueryKind.TheVariants.{Contains, HasKey, GetReg, GetSum}
 use Rattle.rp_lang.specs.Crdts.{Cr, SetAw, SetRw, Reg, MvReg, Counter, MapUw, MapDw, Struct, CrFields, no_field, also_field}
-use Rattle.rp_lang.specs.Programs.{Rt, Prog}
+use Rattle.rp_lang.specs.Programs.{Rt}
+use Rattle.rp_lang.specs.FirstForm.{are_distinct}
 use Rattle.rp_lang.specs.Types.{same_ty, is_ty, is_one, is_nothing, is_ordinary, bool_ty, is_maybe_of}
 
 -- # Replicated types
@@ -22,7 +23,11 @@ abbrev pub has_fields : CrFields → Bool
 has_fields no_field = false
 has_fields (also_field name crdt rest) = true
 
--- elements, values and keys are of types of data, and a struct has a field
+abbrev pub field_names : CrFields → List (List ℕ)
+field_names no_field = []
+field_names (also_field name crdt rest) = name ∷ field_names rest
+
+-- elements, values and keys are of types of data, and a struct has a field or more, with different names
 abbrev mutual
   pub is_crdt : TypeTable → Cr → Bool
   is_crdt types (SetAw ty) = is_ordinary types ty
@@ -32,7 +37,7 @@ abbrev mutual
   is_crdt types Counter = true
   is_crdt types (MapUw keys at_each) = is_ordinary types keys && is_crdt types at_each
   is_crdt types (MapDw keys at_each) = is_ordinary types keys && is_crdt types at_each
-  is_crdt types (Struct fields) = has_fields fields && are_crdts types fields
+  is_crdt types (Struct fields) = has_fields fields && are_distinct (field_names fields) && are_crdts types fields
 
   pub are_crdts : TypeTable → CrFields → Bool
   are_crdts types no_field = true

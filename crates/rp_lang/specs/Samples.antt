@@ -11,7 +11,7 @@ use Rattle.rp_lang.specs.declared.query.QueryDecl.{QueryDecl}
 use Rattle.rp_lang.specs.declared.query.QueryKind.TheVariants.{Contains}
 use Rattle.rp_lang.specs.Crdts.{SetAw}
 use Rattle.rp_lang.specs.Exprs.{Ex, Slot, Bound, OpOf, OpTerm, Query, Exs, no_ex, also_ex}
-use Rattle.rp_lang.specs.Formulas.{Fo, All, Implies, Not, Holds, Equal}
+use Rattle.rp_lang.specs.Formulas.{All, Implies, Not, Holds, Equal}
 use Rattle.rp_lang.specs.Stmts.{Sts, New, Operate, If, Atomic, ReturnWith, no_st, also_st}
 use Rattle.rp_lang.specs.Programs.{Rt, Inv, Proc, Prog}
 use Rattle.rp_lang.specs.Types.{bool_ty}
@@ -58,6 +58,16 @@ refs = record {
   body = All id (Implies (Holds (Query 1 (one (Bound 0)))) (Holds (Query 0 (one (Bound 0)))));
 }
 
+-- the body of `add` below, which stands at `from`
+abbrev pub adding : ℕ → Sts
+adding from =
+    also_st (Atomic (span (from + 30) (from + 65))
+    (also_st (New (span (from + 39) (from + 49)) 0 0)
+    (also_st (Operate (span (from + 50) (from + 63)) 1 (one (Slot 0)))
+    no_st)))
+    (also_st (ReturnWith (span (from + 68) (from + 77)) (Slot 0))
+    no_st)
+
 -- proc add(): U {
 --   var u: U;
 --   atomic { u = new U; users.add(u); }
@@ -71,14 +81,18 @@ add from = record {
   params = [];
   result = Some id;
   slots = id ∷ [];
-  body =
-    also_st (Atomic (span (from + 30) (from + 65))
-      (also_st (New (span (from + 39) (from + 49)) 0 0)
-      (also_st (Operate (span (from + 50) (from + 63)) 1 (one (Slot 0)))
-      no_st)))
-    (also_st (ReturnWith (span (from + 68) (from + 77)) (Slot 0))
-    no_st);
+  body = adding from;
 }
+
+-- the body of `post` below
+abbrev pub posting : ℕ → Sts
+posting from =
+    also_st (Atomic (span (from + 20) (from + 71))
+    (also_st (If (span (from + 29) (from + 69)) (Holds (Query 0 (one (Slot 0))))
+    (also_st (Operate (span (from + 54) (from + 67)) 3 (one (Slot 0))) no_st)
+    no_st)
+    no_st))
+    no_st
 
 -- proc post(u: U) {
 --   atomic { if (users.contains(u)) { posts.add(u); } }
@@ -91,14 +105,15 @@ post from = record {
   params = id ∷ [];
   result = None;
   slots = id ∷ [];
-  body =
-    also_st (Atomic (span (from + 20) (from + 71))
-      (also_st (If (span (from + 29) (from + 69)) (Holds (Query 0 (one (Slot 0))))
-        (also_st (Operate (span (from + 54) (from + 67)) 3 (one (Slot 0))) no_st)
-        no_st)
-      no_st))
-    no_st;
+  body = posting from;
 }
+
+-- the body of `remove` below
+abbrev pub removing : ℕ → Sts
+removing from =
+    also_st (Atomic (span (from + 22) (from + 49))
+    (also_st (Operate (span (from + 31) (from + 47)) 2 (one (Slot 0))) no_st))
+    no_st
 
 -- proc remove(u: U) {
 --   atomic { users.remove(u); }
@@ -111,10 +126,7 @@ remove from = record {
   params = id ∷ [];
   result = None;
   slots = id ∷ [];
-  body =
-    also_st (Atomic (span (from + 22) (from + 49))
-      (also_st (Operate (span (from + 31) (from + 47)) 2 (one (Slot 0))) no_st))
-    no_st;
+  body = removing from;
 }
 
 -- # The programs

@@ -1,11 +1,7 @@
 -- Small programs over two sets of ids, each with one thing to look at.
-use Rattle.std.specs.Prelude.{ℕ, zero, suc, ℤ, pos, true, false, List, [], ◌∷◌, replicate, codes, Option, Some, None}
+use Rattle.std.specs.Prelude.{ℕ, zero, suc, List, [], ◌∷◌, codes, Option, None}
 use Rattle.rp_span.specs.declared.Span.{Span}
 use Rattle.rp_value.specs.declared.tables.Ty.{Ty}
-use Rattle.rp_value.specs.declared.tables.Ty.TheVariants.{Atom, Datatype}
-use Rattle.rp_value.specs.declared.tables.Ty.TheVariants as ty
-use Rattle.rp_value.specs.declared.tables.TypeTable.{TypeTable}
-use Rattle.rp_value.specs.declared.tables.ConTable.{ConTable}
 use Rattle.rp_value.specs.declared.tables.ConDecl.{ConDecl}
 use Rattle.rp_value.specs.declared.tables.DataDecl.{DataDecl}
 use Rattle.rp_lang.specs.declared.op.OpDecl.{OpDecl}
@@ -13,12 +9,12 @@ use Rattle.rp_lang.specs.declared.op.PathStep.{PathStep}
 use Rattle.rp_lang.specs.declared.op.OpKind.TheVariants.{Increment}
 use Rattle.rp_lang.specs.declared.query.QueryDecl.{QueryDecl}
 use Rattle.rp_lang.specs.Crdts.{Cr, Counter, MapUw}
-use Rattle.rp_lang.specs.Exprs.{Ex, Slot, Con, Query, Exs, no_ex, also_ex}
-use Rattle.rp_lang.specs.Formulas.{Fo, All, Not, Holds, Equal}
-use Rattle.rp_lang.specs.Stmts.{St, New, Operate, Assert, Sts, no_st, also_st}
-use Rattle.rp_lang.specs.Programs.{Rt, Inv, Proc, Prog}
-use Rattle.rp_lang.specs.FirstForm.{bool_cons, tx}
-use Rattle.rp_lang.specs.Samples.{span, one, id, over_sets, ops, removes_users}
+use Rattle.rp_lang.specs.Exprs.{Ex, Slot, Con, no_ex}
+use Rattle.rp_lang.specs.Formulas.{Fo, All, Not, Holds}
+use Rattle.rp_lang.specs.Stmts.{St, New, Operate, Sts, no_st, also_st}
+use Rattle.rp_lang.specs.Programs.{Proc, Prog}
+use Rattle.rp_lang.specs.FirstForm.{tx}
+use Rattle.rp_lang.specs.Samples.{span, one, id, over_sets, removes_users}
 
 abbrev pub here : Span
 here = span 0 0
@@ -43,6 +39,22 @@ with_result result params slots body = over_sets [] (record {
   slots = slots;
   body = block body;
 } ∷ [])
+
+-- procedures of these names that do nothing
+abbrev pub named_procs : List (List ℕ) → List Proc
+named_procs [] = []
+named_procs (name ∷ names) = record {
+  name = name;
+  at = here;
+  end = here;
+  params = [];
+  result = None;
+  slots = [];
+  body = no_st;
+} ∷ named_procs names
+
+abbrev pub with_procs : List (List ℕ) → Prog
+with_procs names = over_sets [] (named_procs names)
 
 -- one procedure with these parameters and slots
 abbrev pub procedure : List Ty → List Ty → List St → Prog
@@ -83,13 +95,13 @@ with_types datatypes cons = record removes_users {
   cons = record { cons = record { name = codes "false"; of = 0; fields = [] } ∷ record { name = codes "true"; of = 0; fields = [] } ∷ cons };
 }
 
--- a datatype of these constructors
+-- a datatype of these constructors, named by their numbers
 abbrev pub data_of : List ℕ → DataDecl
-data_of cons = record { name = codes "D"; cons = cons }
+data_of cons = record { name = cons; cons = cons }
 
--- a constructor of datatype n with these fields
+-- a constructor of datatype n with these fields, named by its datatype's number
 abbrev pub con : ℕ → List Ty → ConDecl
-con n fields = record { name = codes "c"; of = n; fields = fields }
+con n fields = record { name = n ∷ []; of = n; fields = fields }
 
 -- # Roots and operations
 

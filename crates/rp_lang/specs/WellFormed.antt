@@ -1,5 +1,5 @@
--- Well-formed programs: all numbers in range, well typed, and within the limits.
-use Rattle.std.specs.Prelude.{ℕ, Bool, true, false, ◌&&◌, ◌||◌, nat_lt, nat_le, List, [], ◌∷◌, length, Option, is_none}
+-- Well-formed programs: all numbers in range, well typed, with names that differ, and within the limits.
+use Rattle.std.specs.Prelude.{Bool, true, false, ◌&&◌, ◌||◌, nat_lt, nat_le, List, [], ◌∷◌, length, Option, is_none}
 use Rattle.std.specs.List.{list_all}
 use Rattle.std.specs.Option.{option_map_or}
 use Rattle.rp_value.specs.declared.tables.Ty.{Ty}
@@ -12,7 +12,7 @@ use Rattle.rp_lang.specs.Paths.{is_crdt, is_op, is_query, is_tx}
 use Rattle.rp_lang.specs.Typing.{Frame, in_invariant}
 use Rattle.rp_lang.specs.Flow.{all_return}
 use Rattle.rp_lang.specs.Blocks.{is_condition, are_stmts}
-use Rattle.rp_lang.specs.FirstForm.{are_distinct, names}
+use Rattle.rp_lang.specs.Names.{have_names}
 
 -- # Roots, operations and queries
 
@@ -73,7 +73,7 @@ is_procedure p q =
     && returns_a_value q
 
 abbrev pub are_procs : Prog → Bool
-are_procs p = nat_le (length p.procs) 64 && list_all (is_procedure p) p.procs && are_distinct (names p.procs)
+are_procs p = nat_le (length p.procs) 64 && list_all (is_procedure p) p.procs
 
 -- # The whole program
 
@@ -85,3 +85,4 @@ is_well_formed p =
     && are_queries p
     && are_invs p
     && are_procs p
+    && have_names p

@@ -209,6 +209,9 @@ fn is_stmt_arm<'x>(arm: &'x StmtArm, draft: &Draft, frame: &'x Frame<'x>) -> boo
         && spec.are_stmts (draft_view draft.now) (spec.in_arm (out-StmtArm arm.now).slots (frame_view frame.now)) (stmts_view (out-StmtArm arm.now).body)) }
 {
     let before = Before::Arm((&*arm).slots.as_slice(), &*frame.before);
-    take_fields(&*frame, arm.slots.as_slice(), fields_of(&draft.cons, arm.con))
-        && are_stmts((&*arm).body.as_slice(), draft, &(&*frame).with(&before))
+    take_fields(
+        &*frame,
+        arm.slots.as_slice(),
+        fields_of(&draft.cons, arm.con),
+    ) && are_stmts((&*arm).body.as_slice(), draft, &(&*frame).with(&before))
 }

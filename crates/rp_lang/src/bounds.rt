@@ -34,11 +34,7 @@ impl<'a> Uses<'a> {
     {
         match self {
             Uses::Closed => 1,
-            Uses::Quantified(outer) => if n == 0 {
-                1
-            } else {
-                outer.get(n - 1)
-            },
+            Uses::Quantified(outer) => if n == 0 { 1 } else { outer.get(n - 1) },
             Uses::Fields(count, each, outer) => if (n as usize) < *count {
                 *each
             } else {
@@ -135,7 +131,10 @@ fn fo_weight(f: &Formula, cons: &ConTable, uses: &Uses) -> u64
             if each > NODES {
                 return each;
             }
-            plus(plus(1, each), arms_weight(arms.as_slice(), cons, uses, each))
+            plus(
+                plus(1, each),
+                arms_weight(arms.as_slice(), cons, uses, each),
+            )
         }
     }
 }

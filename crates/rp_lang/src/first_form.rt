@@ -149,7 +149,7 @@ fn all_are_over_truth_values(procs: &[ProcDecl]) -> bool
     true
 }
 
-fn has_name(procs: &[ProcDecl], name: &[u8]) -> bool
+pub fn has_name(procs: &[ProcDecl], name: &[u8]) -> bool
     ensures { result ≡ list_any (pointwise nat_eq name.now) (spec.names (map proc_view procs.now)) }
 {
     for p in procs {

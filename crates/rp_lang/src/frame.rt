@@ -75,11 +75,7 @@ impl<'a> Binders<'a> {
     {
         match self {
             Binders::Closed => None,
-            Binders::Quantified(ty, outer) => if n == 0 {
-                Some(*ty)
-            } else {
-                outer.get(n - 1)
-            },
+            Binders::Quantified(ty, outer) => if n == 0 { Some(*ty) } else { outer.get(n - 1) },
             Binders::Fields(fields, outer) => if (n as usize) < fields.len() {
                 Some(from_end(*fields, n))
             } else {

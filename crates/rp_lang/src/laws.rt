@@ -12,7 +12,7 @@ ghost use Rattle.rp_lang.specs.Stmts.{Put, Decide, New, Operate, If, Match, Atom
 ghost use Rattle.rp_lang.specs.Samples as sample;
 ghost use Rattle.rp_lang.specs.Samples.{one, id, on_set};
 ghost use Rattle.rp_lang.specs.Types.{bool_ty};
-ghost use Rattle.rp_lang.specs.Variants.{here, block, id_expr, procedure, with_result, makes, adds, claims, yes, quantified, negated, with_types, data_of, con, with_maps, with_op, with_query};
+ghost use Rattle.rp_lang.specs.Variants.{here, block, id_expr, procedure, with_result, makes, adds, claims, yes, quantified, negated, with_procs, with_types, data_of, con, with_maps, with_op, with_query};
 ghost use Rattle.rp_lang.specs.WellFormed.{is_well_formed};
 
 /// The two programs over sets of ids are well formed.
@@ -129,4 +129,13 @@ pub fn steps_on_paths()
     ensures other_key { is_well_formed (with_maps 1 (Key Int ∷ []) (Int ∷ Int ∷ [])) ≡ false }
     ensures no_field { is_well_formed (with_maps 1 (Field 0 ∷ []) (Int ∷ [])) ≡ false }
     ensures query_of_sets { is_well_formed (with_query (record { root = 0; path = []; kind = Contains; args = id ∷ []; result = Int })) ≡ false }
+{}
+
+/// Roots, procedures and constructors together have different names.
+pub fn different_names()
+    ensures different { is_well_formed (with_procs (codes "p" ∷ codes "q" ∷ [])) ≡ true }
+    ensures twice { is_well_formed (with_procs (codes "p" ∷ codes "p" ∷ [])) ≡ false }
+    ensures of_a_root { is_well_formed (with_procs (codes "users" ∷ [])) ≡ false }
+    ensures of_an_id_type { is_well_formed (with_types (record { name = codes "U"; cons = 2 ∷ [] } ∷ []) (con 1 [] ∷ [])) ≡ false }
+    ensures constructors { is_well_formed (with_types (data_of (2 ∷ 3 ∷ []) ∷ []) (con 1 [] ∷ con 1 [] ∷ [])) ≡ false }
 {}

@@ -1,21 +1,21 @@
 //! Programs, their steps and the names of their goals.
 #![tactic(auto)]
 
+mod blocks;
+mod bounds;
 mod crdt;
 mod draft;
-mod typing;
-mod frame;
-mod flow;
-mod bounds;
-mod blocks;
 mod event;
 mod expr;
 mod first_form;
+mod flow;
 mod formula;
+mod frame;
 mod goal;
 mod inv;
 mod laws;
 mod limit;
+mod names;
 mod op;
 mod paths;
 mod proc;
@@ -23,9 +23,11 @@ mod program;
 mod query;
 mod refusal;
 mod root;
+mod samples;
 mod step;
 mod stmt;
 mod types;
+mod typing;
 mod well_formed;
 
 pub use crdt::{Crdt, Field};
@@ -35,7 +37,8 @@ pub use formula::{Arm, Formula};
 pub use goal::{GoalKind, GoalName};
 pub use inv::InvDecl;
 pub use laws::{
-    assignments, datatypes, integers, matches, operations, programs_over_sets, quantifiers, returning, slots_have_values, steps_on_paths,
+    assignments, datatypes, different_names, integers, matches, operations, programs_over_sets,
+    quantifiers, returning, slots_have_values, steps_on_paths,
 };
 pub use limit::LimitName;
 pub use op::{OpDecl, OpKind, PathStep};
@@ -44,5 +47,6 @@ pub use program::Program;
 pub use query::{QueryDecl, QueryKind};
 pub use refusal::Refusal;
 pub use root::Root;
+pub use samples::removes_users;
 pub use step::{Action, Step};
 pub use stmt::{Stmt, StmtArm, StmtKind};

@@ -1,5 +1,7 @@
 //! Whether replicated types are in order, and which operations and queries they have at a path.
 ghost use Rattle.std.specs.Prelude.{◌≡◌, map, slice_get, Some, option_map, option_copied};
+ghost use Rattle.rp_lang.specs.FirstForm.{are_distinct};
+ghost use Rattle.rp_lang.specs.Names.{is_name};
 ghost use Rattle.rp_lang.specs.Paths as spec;
 ghost use Rattle.rp_lang.specs.Views.{crdt_view, crdt_fields_view, root_view};
 
@@ -28,6 +30,7 @@ pub fn is_crdt(crdt: &Crdt, types: &TypeTable) -> bool
         Crdt::MapUw(keys, at_each) => is_ordinary(types, *keys) && is_crdt(at_each.get(), types),
         Crdt::MapDw(keys, at_each) => is_ordinary(types, *keys) && is_crdt(at_each.get(), types),
         Crdt::Struct(fields) => has_fields(fields.as_slice())
+            && fields_are_distinct(fields.as_slice())
             && are_crdts(fields.as_slice(), types),
     }
 }
@@ -52,6 +55,33 @@ fn has_fields(fields: &[Field]) -> bool
         Some(_) => true,
         None => false,
     }
+}
+
+#[tactic(auto, using(crate::proofs::CrdtViews::crdt_views))]
+fn fields_have(fields: &[Field], name: &[u8]) -> bool
+    ensures { result ≡ is_name name.now (spec.field_names (crdt_fields_view fields.now)) }
+{
+    for field in fields {
+        if name == field.name.as_slice() {
+            return true;
+        }
+    }
+    false
+}
+
+/// Whether the fields have different names.
+#[tactic(auto, using(crate::proofs::CrdtViews::crdt_views))]
+fn fields_are_distinct(fields: &[Field]) -> bool
+    ensures { result ≡ are_distinct (spec.field_names (crdt_fields_view fields.now)) }
+{
+    let mut left = fields;
+    while let [first, rest @ ..] = left {
+        if fields_have(rest, first.name.as_slice()) {
+            return false;
+        }
+        left = rest;
+    }
+    true
 }
 
 /// The type at the field n.

@@ -91,7 +91,7 @@ impl Program {
     }
 }
 
-fn only_tx(alloc: Global) -> Result<List<OpDecl>, Memory>
+pub fn only_tx(alloc: Global) -> Result<List<OpDecl>, Memory>
     ensures { IfOk result (λ ops. ops ≡ spec.tx ∷ []) }
 {
     let mut ops = List::new(alloc);
@@ -104,7 +104,7 @@ fn only_tx(alloc: Global) -> Result<List<OpDecl>, Memory>
     Ok(ops)
 }
 
-fn bool_types(alloc: Global) -> Result<TypeTable, Memory>
+pub fn bool_types(alloc: Global) -> Result<TypeTable, Memory>
     ensures { IfOk result (λ types. types ≡ spec.bool_types) }
 {
     let mut cons = List::new(alloc);
@@ -121,7 +121,7 @@ fn bool_types(alloc: Global) -> Result<TypeTable, Memory>
     })
 }
 
-fn bool_cons(alloc: Global) -> Result<ConTable, Memory>
+pub fn bool_cons(alloc: Global) -> Result<ConTable, Memory>
     ensures { IfOk result (λ cons. cons ≡ spec.bool_cons) }
 {
     let mut cons = List::new(alloc);

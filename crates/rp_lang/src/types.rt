@@ -244,7 +244,10 @@ fn parts_of_cons(types: &TypeTable, cons: &ConTable, depth: u32, list: &[u32]) -
         if sum > PARTS {
             return sum;
         }
-        sum = more_parts(sum, parts_of_fields(types, cons, depth, fields_of(cons, *con)));
+        sum = more_parts(
+            sum,
+            parts_of_fields(types, cons, depth, fields_of(cons, *con)),
+        );
     }
     sum
 }
@@ -316,7 +319,7 @@ fn is_called_none(cons: &ConTable, con: u32) -> bool
 }
 
 /// Whether the text declares the datatype, and it is no `Maybe` type.
-fn is_declared(cons: &ConTable, decl: &DataDecl) -> bool
+pub fn is_declared(cons: &ConTable, decl: &DataDecl) -> bool
     ensures { result ≡ spec.is_declared cons.now decl.now }
 {
     match decl.cons.as_slice().first() {

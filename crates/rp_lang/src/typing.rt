@@ -26,11 +26,7 @@ fn is_word(n: i128) -> bool
 pub fn given(holds: bool, found: Option<Ty>) -> Option<Ty>
     ensures { result ≡ spec.given holds found }
 {
-    if holds {
-        found
-    } else {
-        None
-    }
+    if holds { found } else { None }
 }
 
 /// The type of a plain expression under these binders.
@@ -203,14 +199,7 @@ fn are_comparable(a: &Expr, b: &Expr, draft: &Draft, frame: &Frame, binders: &Bi
     agree(left, right) && !(is_record_term(a) && is_record_term(b))
 }
 
-fn are_both(
-    a: &Expr,
-    b: &Expr,
-    draft: &Draft,
-    frame: &Frame,
-    binders: &Binders,
-    ty: Ty,
-) -> bool
+fn are_both(a: &Expr, b: &Expr, draft: &Draft, frame: &Frame, binders: &Binders, ty: Ty) -> bool
     ensures { result ≡ spec.are_both (draft_view draft.now) (frame_view frame.now) (binders_view binders.now) ty (expr_view a.now) (expr_view b.now) }
 {
     is_ty(type_of(a, draft, frame, binders), ty) && is_ty(type_of(b, draft, frame, binders), ty)
@@ -288,9 +277,19 @@ pub fn is_typed(f: &Formula, draft: &Draft, frame: &Frame, binders: &Binders) ->
         Formula::Implies(a, b) => is_typed(a.get(), draft, frame, binders)
             && is_typed(b.get(), draft, frame, binders),
         Formula::All(ty, body) => is_range(draft, frame, *ty)
-            && is_typed(body.get(), draft, frame, &Binders::Quantified(*ty, &*binders)),
+            && is_typed(
+                body.get(),
+                draft,
+                frame,
+                &Binders::Quantified(*ty, &*binders),
+            ),
         Formula::Any(ty, body) => is_range(draft, frame, *ty)
-            && is_typed(body.get(), draft, frame, &Binders::Quantified(*ty, &*binders)),
+            && is_typed(
+                body.get(),
+                draft,
+                frame,
+                &Binders::Quantified(*ty, &*binders),
+            ),
         Formula::Holds(e) => is_truth(e, draft, frame, binders),
         Formula::Equal(a, b) => are_comparable(a, b, draft, frame, binders),
         Formula::Less(a, b) => are_both(a, b, draft, frame, binders, Ty::Int),

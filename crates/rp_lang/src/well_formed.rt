@@ -8,9 +8,9 @@ ghost use Rattle.rp_lang.specs.Paths as paths;
 
 use crate::blocks::{are_stmts, is_condition};
 use crate::draft::Draft;
-use crate::first_form::have_distinct_names;
 use crate::flow::all_return;
 use crate::frame::{Before, Frame};
+use crate::names::have_names;
 use crate::op::OpDecl;
 use crate::paths::{is_crdt, is_op, is_query, is_tx};
 use crate::proc::ProcDecl;
@@ -161,9 +161,7 @@ fn are_procedures(draft: &Draft) -> bool
 fn are_procs(draft: &Draft) -> bool
     ensures { result ≡ spec.are_procs (draft_view draft.now) }
 {
-    draft.procs.len() <= 64
-        && are_procedures(draft)
-        && have_distinct_names(draft.procs.as_slice())
+    draft.procs.len() <= 64 && are_procedures(draft)
 }
 
 /// Whether the program is well formed. It takes no memory.
@@ -176,4 +174,5 @@ pub fn is_well_formed(draft: &Draft) -> bool
         && are_queries(draft)
         && are_invs(draft)
         && are_procs(draft)
+        && have_names(draft)
 }

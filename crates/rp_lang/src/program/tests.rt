@@ -66,3 +66,11 @@ fn an_assertion_is_of_parameters_and_not_too_deep(rt: HostRuntime) -> Result<(),
     }
     Ok(())
 }
+
+#[test]
+fn a_program_of_users_and_posts(rt: HostRuntime) -> Result<(), Fail> {
+    let program = crate::samples::removes_users(rt.alloc())?.expect(&rt, "is well formed");
+    assert_eq!(rt; program.ops.len(), 5);
+    assert_eq!(rt; program.procs[1].name.as_slice(), b"post".as_slice());
+    Ok(())
+}

@@ -15,13 +15,13 @@ decreases-parts_of_cons l = 3 * l.depth + 2
 abbrev pub invariant-parts_of_cons-loop-con : goal.invariant-parts_of_cons-loop-con
 invariant-parts_of_cons-loop-con l = record {
   all : min (sum_by (λ con. sum_by (parts l.types l.cons l.depth) (fields_of l.cons con)) l.list) 1001
-    ≡ min (l.sum + sum_by (λ con. sum_by (parts l.types l.cons l.depth) (fields_of l.cons con)) (drop l.con-index l.list)) 1001;
+      ≡ min (l.sum + sum_by (λ con. sum_by (parts l.types l.cons l.depth) (fields_of l.cons con)) (drop l.con-index l.list)) 1001;
   fits : l.sum ≤ 1001;
 }
 
 abbrev pub invariant-parts_of_fields-loop-field : goal.invariant-parts_of_fields-loop-field
 invariant-parts_of_fields-loop-field l = record {
   all : min (sum_by (parts l.types l.cons l.depth) l.fields) 1001
-    ≡ min (l.sum + sum_by (parts l.types l.cons l.depth) (drop l.field-index l.fields)) 1001;
+      ≡ min (l.sum + sum_by (parts l.types l.cons l.depth) (drop l.field-index l.fields)) 1001;
   fits : l.sum ≤ 1001;
 }

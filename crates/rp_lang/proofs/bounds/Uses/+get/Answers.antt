@@ -1,4 +1,4 @@
-use Rattle.std.proofs.Common.{◌≡◌, ◌+◌, ◌-◌, unwrap_or, length, slice_get, arith, ap, sym, ◌∙◌}
+use Rattle.std.proofs.Common.{unwrap_or, ap, sym, ◌∙◌}
 use Rattle.rp_lang.specs.UsesView.{uses_view}
 use Rattle.rp_lang.proofs.FrameViews.{get_past}
 use Rattle.rp_lang.proofs.UsesViews.{uses_view-Quantified, uses_view-Fields, among_equal, past_equal}
@@ -11,9 +11,9 @@ returns-else-n-eq0 t c =
 pub returns-then-n-count : goal.returns-then-n-count
 returns-then-n-count t c =
     rw (c.in-Fields.is, uses_view-Fields c.in-Fields.count c.in-Fields.each c.in-Fields.outer)
-      (ap (λ found. unwrap_or found 1) (sym (among_equal c.in-Fields.count c.in-Fields.each c.args.n (uses_view c.in-Fields.outer.now) c.if-n-count.true)))
+    (ap (λ found. unwrap_or found 1) (sym (among_equal c.in-Fields.count c.in-Fields.each c.args.n (uses_view c.in-Fields.outer.now) c.if-n-count.true)))
 
 pub returns-else-n-count : goal.returns-else-n-count
 returns-else-n-count t c =
     rw (c.in-Fields.is, uses_view-Fields c.in-Fields.count c.in-Fields.each c.in-Fields.outer)
-      (c.get-else-n-count.ensures ∙ ap (λ found. unwrap_or found 1) (sym (past_equal c.in-Fields.count c.in-Fields.each c.args.n (uses_view c.in-Fields.outer.now) c.if-n-count.false)))
+    (c.get-else-n-count.ensures ∙ ap (λ found. unwrap_or found 1) (sym (past_equal c.in-Fields.count c.in-Fields.each c.args.n (uses_view c.in-Fields.outer.now) c.if-n-count.false)))

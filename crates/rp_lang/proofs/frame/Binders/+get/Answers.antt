@@ -11,11 +11,11 @@ pub returns-then-n-fields : goal.returns-then-n-fields
 returns-then-n-fields t c =
     let fields = c.in-Fields.fields.now in
     rw (c.in-Fields.is, binders_view-Fields c.in-Fields.fields c.in-Fields.outer)
-      (sym (c.from_end.ensures) ∙ sym (under_within fields (binders_view c.in-Fields.outer.now) (length fields - 1 - c.args.n) c.args.n (omega arith)))
+    (sym (c.from_end.ensures) ∙ sym (under_within fields (binders_view c.in-Fields.outer.now) (length fields - 1 - c.args.n) c.args.n (omega arith)))
 
 pub returns-else-n-fields : goal.returns-else-n-fields
 returns-else-n-fields t c =
     let fields = c.in-Fields.fields.now in
     let whole : c.args.n ≡ length fields + (c.args.n - length fields) = omega arith in
     rw (c.in-Fields.is, binders_view-Fields c.in-Fields.fields c.in-Fields.outer)
-      (c.get-else-n-fields.ensures ∙ sym (ap (slice_get _) whole ∙ under_past fields (binders_view c.in-Fields.outer.now) (c.args.n - length fields)))
+    (c.get-else-n-fields.ensures ∙ sym (ap (slice_get _) whole ∙ under_past fields (binders_view c.in-Fields.outer.now) (c.args.n - length fields)))

@@ -2,7 +2,7 @@ use Rattle.std.proofs.Common.{◌≡◌, IsTrue, true, map, sym, subst, ap, ◌�
 use Rattle.rp_lang.specs.FirstForm.{are_over_truth_values}
 use Rattle.rp_lang.specs.Views.{proc_view}
 use Rattle.rp_lang.specs.WellFormed.{is_well_formed}
-use Rattle.rp_lang.proofs.FirstFormLaws.{well_formed_over_truth_values, parts_are, has_first_form}
+use Rattle.rp_lang.proofs.FirstFormLaws.{well_formed_over_truth_values, parts_are}
 use Rattle.rp_lang.proofs.program.Program.first_form.Goals as goal
 
 pub invariant_of-result : goal.invariant_of-result
@@ -12,7 +12,6 @@ invariant_of-result c =
     ap (λ ps. are_over_truth_values (map proc_view ps)) (sym c.as_slice.ensures.items) ∙ sym c.are_over_truth_values.ensures ∙ c.if-not-are_over_truth_values.false in
     record {
       well_formed = subst (λ p. IsTrue (is_well_formed p))
-        (sym (parts_are _ _ _ _ _ _ procs c.in_ok-types.ensures c.in_ok-cons.ensures c.new.ensures c.in_ok-ops.ensures c.new-2.ensures c.new-3.ensures))
-        (well_formed_over_truth_values (map proc_view procs) fits);
+          (sym (parts_are _ _ _ _ _ _ procs c.in_ok-types.ensures c.in_ok-cons.ensures c.new.ensures c.in_ok-ops.ensures c.new-2.ensures c.new-3.ensures))
+          (well_formed_over_truth_values (map proc_view procs) fits);
     }
-
