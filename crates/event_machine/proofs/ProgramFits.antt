@@ -68,7 +68,7 @@ each test (r ∷ others) (suc n) q h at = each test others n q (both_true _ _ h)
 
 pub procs-fit : (p : Prog) → is_well_formed p ≡ true → ProcsFit p
 procs-fit p h n q at =
-    let procs = both_true _ _ (both_true _ _ (both_true _ _ h).1).0 in
+    let procs = both_true _ _ (both_true _ _ (both_true _ _ h).0).1 in
     let facts = each (is_procedure p) p.procs n q procs.1 at in
     let body = both_true _ _ (both_true _ _ facts).0 in
     codes-fit p (at_start q) q.body _ body.1 refl
