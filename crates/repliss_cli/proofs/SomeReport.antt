@@ -49,7 +49,7 @@ within_or_not p = go (few_or_not p.procs) (dec_le (length (goals p)) 2048)
 -- ---- reports
 
 verified_or_not : (content : List ℕ) (p : Prog) → IsFirstText content p → (found : List found.Unproved) → unproved p ≡ found → (r : Report) × IsReportOf content r
-verified_or_not content p text [] none = (Verified (length (goals p)), record { program = p; text = text; safe = safe_none_found p none; counts = refl })
+verified_or_not content p text [] none = (Verified (length (goals p)), record { program = p; text = text; safe = safe_none_found p text.program.plain none; counts = refl })
 verified_or_not content p text (u ∷ us) is = (
   Unproved (length (goals p)) (map (line_for content p) (unproved p)),
   unproved_report tells content p (length (goals p)) (unproved p) (map (line_for content p) (unproved p)) text refl refl (λ none. let e : [] ≡ u ∷ us = sym none ∙ is in cc) refl,
