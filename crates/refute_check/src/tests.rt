@@ -38,7 +38,7 @@ fn number(desk: &mut Desk) -> i128 {
 }
 
 /// The last number, which is a digit.
-fn digit(desk: &mut Desk) -> u32 {
+fn byte(desk: &mut Desk) -> u8 {
     match number(desk) {
         0 => 0,
         1 => 1,
@@ -51,6 +51,10 @@ fn digit(desk: &mut Desk) -> u32 {
         8 => 8,
         _ => 9,
     }
+}
+
+fn digit(desk: &mut Desk) -> u32 {
+    u32::from(byte(desk))
 }
 
 fn term(desk: &mut Desk) -> Term {
@@ -120,8 +124,7 @@ fn read_number(desk: &mut Desk, byte: u8) -> Result<(), Memory> {
 }
 
 fn text(alloc: Global, desk: &mut Desk) -> Result<Term, Memory> {
-    let byte = digit(desk) as u8;
-    Ok(Term::Str(copy_list(alloc, &[byte])?))
+    Ok(Term::Str(copy_list(alloc, &[byte(desk)])?))
 }
 
 fn function(alloc: Global, desk: &mut Desk) -> Result<Term, Memory> {
