@@ -95,8 +95,8 @@ named-good p procs s label new i names g l = record {
 
     rest : (j n : ℕ) → j ≢ i → SafeFor p n new j
     rest j n other = safe-running p n new j (λ run.
-      safe-grows p n s new j run.0 (was-there p s label new i j run.0 names g.formed l other run.1)
-      (step-grows p procs s label new j g.formed l (λ e. other (same_Some j i (sym e ∙ names)))) (g.safe j n))
+        safe-grows p n s new j run.0 (was-there p s label new i j run.0 names g.formed l other run.1)
+        (step-grows p procs s label new j g.formed l (λ e. other (same_Some j i (sym e ∙ names)))) (g.safe j n))
 
 invoke-good : (p : Prog) → ProcsFit p → StartsSafe p → (s : State) (proc : ℕ) (args : List Val) (new : State) → IsGood p s → Leads s (step p s (Invoke proc args)) new → IsGood p new
 invoke-good p procs shown s proc args new g l = record {
