@@ -27,11 +27,11 @@ use Rattle.crdt_lib.specs.Truths.{Reading, truth_val, or_false, nth_con, answer_
 
 -- # The call that an answer names
 
-and-first : (a b : Bool) → (a && b) ≡ true → a ≡ true
+pub and-first : (a b : Bool) → (a && b) ≡ true → a ≡ true
 and-first true b h = refl
 and-first false b h = absurd (true≢false (sym h))
 
-first-meets : (test : ℕ → Bool) (n c : ℕ) → first_below test n ≡ Some c → test c ≡ true
+pub first-meets : (test : ℕ → Bool) (n c : ℕ) → first_below test n ≡ Some c → test c ≡ true
 first-meets test zero c h = absurd (none-some c h)
 first-meets test (suc n) c h = go (λ e. first-meets test n c e) (first_below test n) refl h
   where

@@ -12,3 +12,4 @@ pub mod PickedLemmas
 pub mod SameLemmas
 pub mod TypeLemmas
 pub mod AskedLemmas
+pub mod GotLemmas

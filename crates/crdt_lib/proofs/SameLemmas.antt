@@ -4,29 +4,17 @@ use Rattle.std.specs.Option.{option_map}
 use Rattle.std.specs.Cmp.{signed_Decides}
 use Rattle.std.proofs.lemmas.Bool.{and_parts, and_from, eqb-true, eq-eqb, true≢false, cases_Bool}
 use Rattle.std.proofs.lemmas.Option.{slice_get-map}
+use Rattle.std.proofs.lemmas.Slice.Eq.{bytes_eq-Decides}
 use Rattle.rp_value.specs.declared.value.Value.{Value}
 use Rattle.rp_value.specs.Values.{Val, Int, Str, Atom, Con, Call, Inv, Vals, no_val, also_val}
 use Rattle.rp_value.specs.ValueView.{value_view}
 use Rattle.rp_value.proofs.ValueBack.{same_value_view}
-use Rattle.crdt_lib.specs.SameValues.{same_bytes, same_val, same_vals}
-
-same_bytes_is : (a b : List ℕ) → same_bytes a b ≡ true → a ≡ b
-same_bytes_is [] [] e = refl
-same_bytes_is (x ∷ xs) (y ∷ ys) e =
-    let p = and_parts (nat_eq x y) (same_bytes xs ys) e in
-    let head = eqb-true x y p.0 in
-    let tail = same_bytes_is xs ys p.1 in
-    λ i. head i ∷ tail i
-same_bytes_is _ _ e = absurd (true≢false (sym e))
-
-same_bytes_itself : (a : List ℕ) → same_bytes a a ≡ true
-same_bytes_itself [] = refl
-same_bytes_itself (x ∷ xs) = and_from (nat_eq x x) _ (eq-eqb x x refl) (same_bytes_itself xs)
+use Rattle.crdt_lib.specs.SameValues.{same_val, same_vals}
 
 mutual
   pub same_val_is : (a b : Val) → same_val a b ≡ true → a ≡ b
   same_val_is (Int n) (Int m) e = ap Int ((signed_Decides n m).0 e)
-  same_val_is (Str a) (Str b) e = ap Str (same_bytes_is a b e)
+  same_val_is (Str a) (Str b) e = ap Str ((bytes_eq-Decides a b).0 e)
   same_val_is (Atom s a) (Atom t b) e =
       let p = and_parts (nat_eq s t) (nat_eq a b) e in
       let types = eqb-true s t p.0 in
@@ -53,7 +41,7 @@ mutual
 mutual
   pub same_val_itself : (a : Val) → same_val a a ≡ true
   same_val_itself (Int n) = (signed_Decides n n).1 refl
-  same_val_itself (Str a) = same_bytes_itself a
+  same_val_itself (Str a) = (bytes_eq-Decides a a).1 refl
   same_val_itself (Atom s a) = and_from (nat_eq s s) _ (eq-eqb s s refl) (eq-eqb a a refl)
   same_val_itself (Con c as_) = and_from (nat_eq c c) _ (eq-eqb c c refl) (same_vals_itself as_)
   same_val_itself (Call c) = eq-eqb c c refl

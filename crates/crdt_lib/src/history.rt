@@ -11,7 +11,7 @@ use std::alloc::Global;
 use std::marker::Model;
 
 /// The greatest number of calls.
-const MOST: u32 = 16_384;
+pub(crate) const MOST: usize = 16_384;
 
 /// The calls of a store, numbered from 0. A past is made of earlier calls.
 #[derive(Debug, Drop)]
@@ -78,7 +78,7 @@ impl History {
     pub fn accepts(&self, call: &CallRec) -> bool
         ensures { IsTrue result ↔ MayFollow (length self.now) (call_view call.now) }
     {
-        if self.len() >= MOST {
+        if self.len() as usize >= MOST {
             return false;
         }
         if !is_past(call.past.as_slice(), self.len()) {

@@ -8,13 +8,10 @@ ghost use Rattle.crdt_lib.specs.Doing as spec;
 ghost use Rattle.crdt_lib.specs.Meaning.{among, is_before_one, one_stays};
 ghost use Rattle.crdt_lib.specs.Picked.{listed};
 
-use crate::history::History;
+use crate::history::{History, MOST};
 use crate::row::{does_here, is_here};
 use rp_lang::{OpDecl, OpKind};
 use rp_value::Value;
-
-/// The greatest number of calls of a history.
-pub(crate) const MOST: usize = 16_384;
 
 /// Puts those of `counted` that do this with x into the front of the list, and says how many there are.
 pub(crate) fn pick(

@@ -11,7 +11,7 @@ ghost use Rattle.crdt_lib.specs.Queries as spec;
 
 use crate::answer::answer;
 use crate::asked::{Answer, Found, Question, Winner};
-use crate::history::History;
+use crate::history::{History, MOST};
 use crate::row::{enter_field, mark, narrow};
 use crate::view::View;
 use rp_lang::{Crdt, Field, OpDecl, PathStep, Program, QueryDecl, QueryKind, Root};
@@ -226,8 +226,8 @@ fn answer_to<V: View>(
     ensures { result ≡ spec.answer_to (map root_view roots.now) ops.now query.now (calls_view h.now) (set.contains (V.calls view.now)) (map value_view args.now) }
 {
     let calls = h.len() as usize;
-    let mut row = [false; 16384];
-    let mut spare = [false; 16384];
+    let mut row = [false; MOST];
+    let mut spare = [false; MOST];
     answer_in_rows(
         h,
         roots,
