@@ -431,13 +431,13 @@ new-formed p s i id inv slot of next h a fit below =
       | inr mine ↦ record { below = below x mine; generated = λ q. here x mine }
     ]
 
-not-running : (r : Option Val) → Returned r ≢ Running
+pub not-running : (r : Option Val) → Returned r ≢ Running
 not-running r e = cc
 
-not-failed : Failed ≢ Running
+pub not-failed : Failed ≢ Running
 not-failed e = cc
 
-failed-returned : (r : Option Val) → Failed ≢ Returned r
+pub failed-returned : (r : Option Val) → Failed ≢ Returned r
 failed-returned r e = cc
 
 -- what stands in a result came from an expression

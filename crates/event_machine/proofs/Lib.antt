@@ -17,3 +17,10 @@ pub mod KeptLemmas
 pub mod GrowthLemmas
 pub mod RunLemmas
 pub mod ProgramFits
+pub mod WiderLemmas
+pub mod TypedCode
+pub mod TypedValues
+pub mod ProgramFacts
+pub mod AnswerFits
+pub mod TypedSlots
+pub mod TypedKept

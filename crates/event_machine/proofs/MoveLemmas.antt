@@ -273,7 +273,7 @@ free p s label h =
     }
 
 -- an action of an invocation that is there
-acted : (s new : State) (i : ℕ) (act : Invocation → Answer) → Leads s (on_invocation s i act) new
+pub acted : (s new : State) (i : ℕ) (act : Invocation → Answer) → Leads s (on_invocation s i act) new
     → (new ≡ s) ⊎ ((inv : Invocation) × At s.invocations i inv × Leads s (act inv) new)
 acted s new i act l = go (slice_get s.invocations i) refl l
   where
@@ -549,7 +549,7 @@ fail-moves p s new i f l = elim (acted s new i _ l) [
   | inr a ↦ inr (a.0, record { is = a.1; running = running-at s i a.0 a.1 f.stands_ready; point = refl }, a.2)
 ]
 
-check-moves : (s new : State) (r : Reading) (n : ℕ) (invs : List Inv) → Leads s (checked r n invs) new → new ≡ s
+pub check-moves : (s new : State) (r : Reading) (n : ℕ) (invs : List Inv) → Leads s (checked r n invs) new → new ≡ s
 check-moves s new r n [] l = l
 check-moves s new r n (inv ∷ others) l = go (λ l. check-moves s new r (n + 1) others l) (truth r [] inv.body) l
   where

@@ -1,5 +1,5 @@
 -- The code of a well-formed program's procedures fits a place outside of atomic blocks.
-use Rattle.std.proofs.Common.{◌≡◌, ◌≢◌, ℕ, zero, suc, ◌<◌, Bool, true, false, ◌&&◌, not, List, [], ◌∷◌, Option, Some, None, slice_get, nat_lt, refl, sym, ◌∙◌, ap, subst, arith, true≢false, ltb-true}
+use Rattle.std.proofs.Common.{◌≡◌, ◌≢◌, ℕ, zero, suc, Bool, true, false, not, List, [], ◌∷◌, Option, Some, None, slice_get, nat_lt, refl, sym, ◌∙◌, ap, subst, arith, true≢false, ltb-true}
 use Rattle.std.specs.List.{list_all}
 use Rattle.std.proofs.lemmas.Option.{none-some, same_Some}
 use Rattle.rp_value.specs.declared.tables.AtomType.{AtomType}
@@ -8,14 +8,14 @@ use Rattle.rp_lang.specs.Typing.{Frame}
 use Rattle.rp_lang.specs.Blocks.{in_atomic, in_arm, behind, is_stmt, are_stmts, are_stmt_arms}
 use Rattle.rp_lang.specs.Stmts as st
 use Rattle.rp_lang.specs.Stmts.{St, Sts, no_st, also_st, StArms, no_st_arm, also_st_arm}
-use Rattle.rp_lang.specs.Programs.{Proc, Prog}
-use Rattle.rp_lang.specs.WellFormed.{at_start, has_body, is_procedure, are_procs, is_well_formed}
-use Rattle.event_machine.specs.Code.{Code, code, codes, code_arms, proc_code}
+use Rattle.rp_lang.specs.Programs.{Prog}
+use Rattle.rp_lang.specs.WellFormed.{at_start, is_procedure, is_well_formed}
+use Rattle.event_machine.specs.Code.{Code, code, codes, code_arms}
 use Rattle.event_machine.specs.Fitting.{names_ids}
 use Rattle.event_machine.specs.WellFormed.{At, Fits, ArmsFit, ProcsFit}
 use Rattle.event_machine.proofs.FormLemmas.{both_true}
 
-outside : (b : Bool) → not b ≡ true → b ≡ false
+pub outside : (b : Bool) → not b ≡ true → b ≡ false
 outside true h = absurd (true≢false (sym h))
 outside false h = refl
 
@@ -61,10 +61,10 @@ mutual
       let both = both_true _ _ h in
       (codes-fit p (in_arm slots frame) body next (both_true _ _ both.0).1 f, arms-fit p frame rest next both.1 f)
 
-each : (test : Proc → Bool) (procs : List Proc) (n : ℕ) (q : Proc) → list_all test procs ≡ true → At procs n q → test q ≡ true
-each test [] n q h at = absurd (none-some q at)
-each test (r ∷ others) zero q h at = ap test (sym (same_Some r q at)) ∙ (both_true _ _ h).0
-each test (r ∷ others) (suc n) q h at = each test others n q (both_true _ _ h).1 at
+pub each : {A : Type 0} (test : A → Bool) (xs : List A) (n : ℕ) (x : A) → list_all test xs ≡ true → At xs n x → test x ≡ true
+each test [] n x h at = absurd (none-some x at)
+each test (y ∷ others) zero x h at = ap test (sym (same_Some y x at)) ∙ (both_true _ _ h).0
+each test (y ∷ others) (suc n) x h at = each test others n x (both_true _ _ h).1 at
 
 pub procs-fit : (p : Prog) → is_well_formed p ≡ true → ProcsFit p
 procs-fit p h n q at =

@@ -1,5 +1,5 @@
 -- The induction over runs: where each invocation is safe by itself, every run is.
-use Rattle.std.proofs.Common.{◌≡◌, ◌≢◌, ℕ, zero, suc, ◌+◌, ◌<◌, ◌≤◌, Bool, true, false, if◌then◌else◌, List, [], ◌∷◌, ◌++◌, length, refl, ap, sym, ◌∙◌, subst, slice_get, slice_set, nat_lt, ltb-true, option_and_then, ◌⊎◌, inl, inr, true≢false}
+use Rattle.std.proofs.Common.{◌≡◌, ◌≢◌, ℕ, zero, suc, ◌+◌, ◌≤◌, Bool, true, false, if◌then◌else◌, List, [], ◌∷◌, ◌++◌, length, refl, ap, sym, ◌∙◌, subst, slice_get, slice_set, nat_lt, ltb-true, option_and_then, inl, inr, true≢false}
 use Rattle.std.specs.Option.{option_map_or}
 use Rattle.std.specs.declared.option.Option.{Option}
 use Rattle.std.specs.declared.option.Option.TheVariants.{None, Some}
@@ -7,7 +7,7 @@ use Rattle.std.proofs.lemmas.Option.{none-some, same_Some}
 use Rattle.rp_value.specs.Values.{Val}
 use Rattle.rp_lang.specs.Programs.{Inv, Proc, Prog}
 use Rattle.crdt_lib.specs.Truths.{Reading, truth}
-use Rattle.event_machine.specs.Machine.{Running, Invocation, State, empty, Label, Invoke, Begin, Op, Local, New, Commit, Return, Fail, Check, Why, NoInvocation, NotRunning, What, Invariant, Answer, Moved, Checked, Violated, unless, is_running, calls_of, at_snapshot, named, started, checked, effect, refusal, unless_refused, step}
+use Rattle.event_machine.specs.Machine.{Invocation, State, empty, Label, Invoke, Begin, Op, Local, New, Commit, Return, Fail, Check, Why, NoInvocation, NotRunning, What, Invariant, Answer, Moved, Violated, unless, is_running, calls_of, at_snapshot, named, started, checked, effect, refusal, unless_refused, step}
 use Rattle.event_machine.specs.Runs.{Leads, Run, Violates, IsSafe}
 use Rattle.event_machine.specs.WellFormed.{At, ProcsFit, IsWellFormed}
 use Rattle.event_machine.specs.Growth.{Grows}

@@ -4,6 +4,7 @@ pub mod Fitting
 pub mod Machine
 pub mod WellFormed
 pub mod Growth
+pub mod TypedStates
 pub mod Runs
 pub mod LocalSafety
 pub mod Propositions

@@ -4,17 +4,10 @@ use Rattle.rp_span.specs.declared.Span.{Span}
 use Rattle.rp_value.specs.declared.tables.Ty.{Ty}
 use Rattle.rp_value.specs.declared.tables.Ty.TheVariants as ty
 use Rattle.rp_value.specs.Values.{Val, Atom, Con, no_val, also_val}
-use Rattle.rp_lang.specs.declared.op.OpDecl.{OpDecl}
-use Rattle.rp_lang.specs.declared.op.OpKind.{OpKind}
-use Rattle.rp_lang.specs.declared.op.OpKind.TheVariants.{Add, Remove}
-use Rattle.rp_lang.specs.declared.query.QueryDecl.{QueryDecl}
-use Rattle.rp_lang.specs.declared.query.QueryKind.TheVariants.{Contains}
-use Rattle.rp_lang.specs.Crdts.{SetAw}
-use Rattle.rp_lang.specs.Exprs.{Ex, Exs, Slot, Bound, Query, no_ex, also_ex}
-use Rattle.rp_lang.specs.FirstForm.{bool_types, bool_cons, tx}
-use Rattle.rp_lang.specs.Formulas.{Fo, All, Implies, Holds}
-use Rattle.rp_lang.specs.Stmts.{St, Sts, Put, New, Operate, If, Match, Atomic, ReturnWith, no_st, also_st, no_st_arm, also_st_arm}
-use Rattle.rp_lang.specs.Programs.{Inv, Proc, Prog}
+use Rattle.rp_lang.specs.Exprs.{Slot}
+use Rattle.rp_lang.specs.FirstForm.{tx}
+use Rattle.rp_lang.specs.Stmts.{St, Sts, Put, New, Match, Atomic, ReturnWith, no_st, also_st, no_st_arm, also_st_arm}
+use Rattle.rp_lang.specs.Programs.{Proc, Prog}
 use Rattle.event_machine.specs.States.{Label, Invoke, Begin, Op, Local, Commit, Return, Fail, Check}
 use Rattle.event_machine.specs.States as label
 use Rattle.event_machine.specs.Samples.{span}

@@ -9,7 +9,8 @@ ghost use Rattle.event_machine.specs.Goals.{Goal, goals, Refutes, IsFalseGoal, r
 
 /// A program is safe exactly where no list of labels, in no universe, ends in a violation.
 pub fn safe_by_outcomes()
-    ensures { (p : Prog) → IsSafe p ↔ ((universe : ℕ) (labels : List Label) (step : ℕ) (what : What) → 1 ≤ universe → ¬ (outcome p universe labels ≡ ViolatedAt step what)) }
+    ensures { (p : Prog) → IsSafe p ↔ ((universe : ℕ) (labels : List Label) (step : ℕ) (what : What) → 1 ≤ universe
+        → ¬ (outcome p universe labels ≡ ViolatedAt step what)) }
 {}
 
 /// A program over truth values is safe exactly where none of its goals is false.

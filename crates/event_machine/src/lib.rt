@@ -10,7 +10,10 @@ pub use laws::{false_by_trying, false_goals_violate, safe_by_goals, safe_by_outc
 pub use samples::{
     asserted_parameter, false_goals, order_of_goals, refusals, rows_of_choices, two_invocations,
 };
-pub use states::{growth, local_safety, programs_fit, safe_by_invocations, well_formed_states};
+pub use states::{
+    growth, local_safety, programs_fit, safe_by_invocations, typed_code, typed_states,
+    well_formed_states,
+};
 pub use worked::{
     arms, crashes, earlier_view, identifiers, inside_values, next_actions, post_after_remove,
     post_beside_remove, stamps, what_is_seen,

@@ -1,7 +1,8 @@
 // What the machine and the goals are on small programs. Each function is a law: its clauses compute.
 ghost use Rattle.std.specs.Prelude.{◌≡◌, ℕ, [], ◌∷◌, ◌++◌, map, length, true, false};
 ghost use Rattle.rp_value.specs.Values.{Atom, Con, no_val, also_val, true_val, false_val};
-ghost use Rattle.event_machine.specs.Machine.{Invoke, Local, Return, Fail, Check, ToLocal, ToReturn, Assertion, NoInvocation, NotRunning, WrongPoint, BadArgs, NotCommitted};
+ghost use Rattle.event_machine.specs.Machine.{Invoke, Local, Return, Fail, Check, ToLocal, ToReturn};
+ghost use Rattle.event_machine.specs.Machine.{Assertion, NoInvocation, NotRunning, WrongPoint, BadArgs, NotCommitted};
 ghost use Rattle.event_machine.specs.Runs.{outcome, Clean, ViolatedAt, RefusedAt};
 ghost use Rattle.event_machine.specs.Checks.{Done, stmts_checks, paths};
 ghost use Rattle.event_machine.specs.Goals.{goals, path};
@@ -10,17 +11,22 @@ ghost use Rattle.event_machine.specs.Samples.{span, program, b, claims_b, tautol
 
 /// `assert b` violates at the Local behind the one label that invokes it with `false`.
 pub fn asserted_parameter()
-    ensures violated { (u : ℕ) → outcome claims_b u (Invoke 0 (false_val ∷ []) ∷ Local 0 ∷ []) ≡ ViolatedAt 2 (Assertion (span 18 27)) }
+    ensures violated { (u : ℕ) → outcome claims_b u (Invoke 0 (false_val ∷ []) ∷ Local 0 ∷ [])
+        ≡ ViolatedAt 2 (Assertion (span 18 27)) }
     ensures clean { (u : ℕ) → outcome claims_b u (Invoke 0 (true_val ∷ []) ∷ Local 0 ∷ Return 0 ∷ []) ≡ Clean 3 }
 {}
 
 /// Each refusal, with what it keeps.
 pub fn refusals()
     ensures no_invocation { (u : ℕ) → outcome claims_b u (Local 0 ∷ []) ≡ RefusedAt 1 (NoInvocation 0) }
-    ensures returned { (u : ℕ) → outcome claims_b u (Invoke 0 (true_val ∷ []) ∷ Local 0 ∷ Return 0 ∷ Return 0 ∷ []) ≡ RefusedAt 4 (NotRunning 0) }
-    ensures failed { (u : ℕ) → outcome claims_b u (Invoke 0 (true_val ∷ []) ∷ Fail 0 ∷ Check [] ∷ Local 0 ∷ []) ≡ RefusedAt 4 (NotRunning 0) }
-    ensures too_early { (u : ℕ) → outcome claims_b u (Invoke 0 (true_val ∷ []) ∷ Return 0 ∷ []) ≡ RefusedAt 2 (WrongPoint ToLocal) }
-    ensures too_late { (u : ℕ) → outcome claims_b u (Invoke 0 (true_val ∷ []) ∷ Local 0 ∷ Local 0 ∷ []) ≡ RefusedAt 3 (WrongPoint ToReturn) }
+    ensures returned { (u : ℕ) → outcome claims_b u (Invoke 0 (true_val ∷ []) ∷ Local 0 ∷ Return 0 ∷ Return 0 ∷ [])
+        ≡ RefusedAt 4 (NotRunning 0) }
+    ensures failed { (u : ℕ) → outcome claims_b u (Invoke 0 (true_val ∷ []) ∷ Fail 0 ∷ Check [] ∷ Local 0 ∷ [])
+        ≡ RefusedAt 4 (NotRunning 0) }
+    ensures too_early { (u : ℕ) → outcome claims_b u (Invoke 0 (true_val ∷ []) ∷ Return 0 ∷ [])
+        ≡ RefusedAt 2 (WrongPoint ToLocal) }
+    ensures too_late { (u : ℕ) → outcome claims_b u (Invoke 0 (true_val ∷ []) ∷ Local 0 ∷ Local 0 ∷ [])
+        ≡ RefusedAt 3 (WrongPoint ToReturn) }
     ensures no_procedure { (u : ℕ) → outcome claims_b u (Invoke 1 (true_val ∷ []) ∷ []) ≡ RefusedAt 1 BadArgs }
     ensures too_few { (u : ℕ) → outcome claims_b u (Invoke 0 [] ∷ []) ≡ RefusedAt 1 BadArgs }
     ensures too_many { (u : ℕ) → outcome claims_b u (Invoke 0 (true_val ∷ true_val ∷ []) ∷ []) ≡ RefusedAt 1 BadArgs }
@@ -31,7 +37,9 @@ pub fn refusals()
 
 /// Invocations run side by side, in any order.
 pub fn two_invocations()
-    ensures { (u : ℕ) → outcome claims_b u (Invoke 0 (true_val ∷ []) ∷ Invoke 0 (false_val ∷ []) ∷ Local 0 ∷ Local 1 ∷ []) ≡ ViolatedAt 4 (Assertion (span 18 27)) }
+    ensures { (u : ℕ) → outcome claims_b u
+        (Invoke 0 (true_val ∷ []) ∷ Invoke 0 (false_val ∷ []) ∷ Local 0 ∷ Local 1 ∷ [])
+        ≡ ViolatedAt 4 (Assertion (span 18 27)) }
 {}
 
 /// Ten choices in a row have 1,024 paths, and one around them has one more. Without an assertion there is no goal.
@@ -44,7 +52,8 @@ pub fn rows_of_choices()
 /// A statement behind a choice gives a goal on each path, and the first branch with all that follows comes first.
 pub fn order_of_goals()
     ensures one { map (λ goal. goal.at) (goals tautology) ≡ span 18 33 ∷ [] }
-    ensures places { map (λ goal. goal.at) (goals (program (branches ∷ never ∷ []))) ≡ span 27 36 ∷ span 59 68 ∷ span 46 56 ∷ span 59 68 ∷ span 82 95 ∷ [] }
+    ensures places { map (λ goal. goal.at) (goals (program (branches ∷ never ∷ [])))
+        ≡ span 27 36 ∷ span 59 68 ∷ span 46 56 ∷ span 59 68 ∷ span 82 95 ∷ [] }
     ensures paths { map path (goals (program (branches ∷ never ∷ []))) ≡ (1 ∷ []) ∷ (1 ∷ []) ∷ (2 ∷ []) ∷ (2 ∷ []) ∷ [] ∷ [] }
     ensures procedures { map (λ goal. goal.proc) (goals (program (branches ∷ never ∷ []))) ≡ 0 ∷ 0 ∷ 0 ∷ 0 ∷ 1 ∷ [] }
     ensures params { map (λ goal. goal.params) (goals (program (branches ∷ never ∷ []))) ≡ 1 ∷ 1 ∷ 1 ∷ 1 ∷ 0 ∷ [] }
