@@ -1,5 +1,5 @@
 -- The code of well typed statements is typed.
-use Rattle.std.proofs.Common.{◌≡◌, ℕ, Bool, true, false, ◌&&◌, ◌||◌, ◌==◌, not, List, [], ◌∷◌, length, Option, Some, None, slice_get, is_none, nat_lt, ltb-true, refl, sym, ◌∙◌, ap, subst, inl, inr, true≢false}
+use Rattle.std.proofs.Common.{◌≡◌, ℕ, Bool, true, false, ◌&&◌, ◌||◌, ◌==◌, List, [], ◌∷◌, length, Option, Some, None, slice_get, is_none, nat_lt, ltb-true, refl, sym, ◌∙◌, ap, subst, inl, inr, true≢false}
 use Rattle.rp_value.specs.declared.tables.Ty.{Ty}
 use Rattle.rp_value.specs.declared.tables.Ty.TheVariants.{Atom, Datatype}
 use Rattle.rp_lang.specs.Types.{agree, bool_ty, fields_of}

@@ -1,5 +1,5 @@
 -- Every accepted label of a well-formed program keeps typed states.
-use Rattle.std.proofs.Common.{◌≡◌, ℕ, ◌+◌, Bool, true, false, if◌then◌else◌, nat_lt, List, [], ◌∷◌, ◌++◌, length, Option, Some, None, is_some, is_none, slice_get, slice_set, option_and_then, eqb-true, refl, sym, ◌∙◌, ap, subst, ◌⊎◌, inl, inr, true≢false}
+use Rattle.std.proofs.Common.{◌≡◌, ℕ, Bool, true, false, if◌then◌else◌, nat_lt, List, [], ◌∷◌, ◌++◌, length, Option, Some, None, is_some, is_none, slice_get, slice_set, option_and_then, eqb-true, refl, sym, ◌∙◌, ap, subst, ◌⊎◌, inl, inr, true≢false}
 use Rattle.std.specs.Option.{option_map_or}
 use Rattle.std.proofs.lemmas.Option.{none-some}
 use Rattle.rp_value.specs.declared.tables.Ty.{Ty}
