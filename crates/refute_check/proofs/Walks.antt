@@ -105,6 +105,11 @@ nested_last : (n m : ℕ) (ws : List Waiting) (w : Waiting) → AreNested n m (r
     → AreNested n m (w ∷ reverse ws)
 nested_last n m ws w t = subst (λ xs. AreNested n m xs) (reverse-append ws (w ∷ [])) t
 
+-- what waits begins with no more formulas than the branch has
+pub waits_within : (b : OpenBranch) (old ws : List Waiting) (w : Waiting) → old ≡ ws ++ w ∷ []
+    → AreWithin b old → w.formulas ≤ length b.formulas
+waits_within b old ws w is t = (nested_last _ _ ws w (subst (λ xs. AreWithin b xs) is t)).0
+
 seen_length : (b : OpenBranch) → length (branch_view b).formulas ≡ length b.formulas
 seen_length b = length-map b.formulas formula_view
 

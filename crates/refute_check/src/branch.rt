@@ -1,23 +1,40 @@
 //! Branches: the formulas from the root to a node.
-ghost use Rattle.std.specs.Prelude.{◌≡◌, option_map, option_and_then, true, false};
+ghost use Rattle.std.specs.Prelude.{◌≡◌, ◌∷◌, [], ◌++◌, OnOk, option_map, option_and_then, true, false};
 ghost use Rattle.rp_logic.specs.Views.{formula_view, formulas_view, atom_view};
 ghost use Rattle.refute_defs.specs.Branches.{formula_at as spec_formula_at};
 ghost use Rattle.refute_defs.specs.Children as spec;
 ghost use Rattle.refute_check.specs.Lent.{branch_view, sides_view, order_view};
+ghost use Rattle.refute_check.specs.Marks.{HasMarks};
 
 use crate::form::{
     Order, Sides, conjuncts, denied_order, disjuncts, equality, existential, literal, stated_order,
     universal,
 };
-use rp_logic::{Atom, Fml, NewConst};
-use rp_value::List;
+use crate::marks::{Mark, mark_formula};
+use rp_logic::{Atom, Fml, NewConst, Sig};
+use rp_value::{List, Memory};
 
-/// The given formulas, then the added ones, each at its place, and the constants that were brought,
-/// the oldest first.
+/// The given formulas, then the added ones, each at its place, the constants that were brought, the
+/// oldest first, and marks of the constants past the signature's that stand in the formulas.
 #[derive(Debug, Drop)]
 pub(crate) struct OpenBranch {
     pub formulas: List<Fml>,
     pub added: List<NewConst>,
+    pub marks: List<Mark>,
+}
+
+/// Adds a formula, and marks its constants that have no mark.
+pub(crate) fn add_formula(sig: &Sig, b: &mut OpenBranch, formula: Fml) -> Result<(), Memory>
+    requires { HasMarks sig.now b.old }
+    ensures formulas { OnOk result (b.new.formulas ≡ b.old.formulas ++ formula ∷ []) }
+    ensures added { OnOk result (b.new.added ≡ b.old.added) }
+    ensures marked { OnOk result (HasMarks sig.now b.new) }
+{
+    let place = b.formulas.count();
+    b.formulas.push(formula)?;
+    let formula = b.formulas.get(place as usize);
+    mark_formula(sig.consts.count(), place, &mut b.marks, formula)?;
+    Ok(())
 }
 
 #[tactic(auto, using(crate::proofs::Lists::gets))]

@@ -6,6 +6,7 @@ ghost use Rattle.refute_defs.specs.Children as spec;
 ghost use Rattle.refute_check.specs.Lent.{branch_view};
 ghost use Rattle.refute_check.specs.Conclusions.{concluded};
 ghost use Rattle.refute_check.specs.Added.{addition_view};
+ghost use Rattle.refute_check.specs.Marks.{HasMarks};
 
 use crate::additions::{Addition, additions, one_child};
 use crate::branch::OpenBranch;
@@ -24,6 +25,7 @@ use std::alloc::Global;
 
 /// The conclusion of a rule other than the two of congruence, if the node meets it.
 fn conclude<'a>(sig: &'a Sig, b: &'a OpenBranch, u: &'a RuleUse) -> Option<Conclusion<'a>>
+    requires { HasMarks sig.now b.now }
     ensures { u.now.rule ≢ 10 → u.now.rule ≢ 11 → option_map concluded result
         ≡ spec.children (sig_view sig.now) (branch_view b.now) (use_view u.now) }
 {
@@ -59,6 +61,7 @@ pub(crate) fn children(
     b: &OpenBranch,
     u: &RuleUse,
 ) -> Result<List<Addition>, Stop>
+    requires { HasMarks sig.now b.now }
     ensures found { IfOk result
         (λ adds. spec.children (sig_view sig.now) (branch_view b.now) (use_view u.now)
         ≡ Some (map addition_view adds)) }

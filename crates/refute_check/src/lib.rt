@@ -11,7 +11,7 @@ mod datatypes;
 mod equalities;
 mod error;
 mod form;
-mod lacks;
+mod marks;
 mod orders;
 mod propositions;
 mod quantifiers;

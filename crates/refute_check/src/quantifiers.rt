@@ -7,10 +7,11 @@ ghost use Rattle.refute_defs.specs.Children as spec;
 ghost use Rattle.refute_defs.specs.Constants.{is_new as spec_is_new};
 ghost use Rattle.refute_check.specs.Lent.{branch_view};
 ghost use Rattle.refute_check.specs.Conclusions.{concluded};
+ghost use Rattle.refute_check.specs.Marks.{HasMarks};
 
 use crate::branch::{OpenBranch, existential_at, universal_at};
 use crate::conclusion::Conclusion;
-use crate::lacks::each_lacks;
+use crate::marks::is_marked;
 use crate::shape::place_and_term;
 use crate::sorts::is_of_sort;
 use refute_defs::RuleUse;
@@ -52,13 +53,15 @@ fn constant(t: &Term) -> Option<u32>
 
 /// Whether the constant stands neither in the signature nor on the branch.
 fn is_new(sig: &Sig, b: &OpenBranch, c: u32) -> bool
+    requires { HasMarks sig.now b.now }
     ensures { result ≡ spec_is_new (sig_view sig.now) (branch_view b.now) c }
 {
-    sig.consts.count() <= c && each_lacks(c, b.formulas.as_slice())
+    sig.consts.count() <= c && !is_marked(&b.marks, c)
 }
 
 /// Of an `Ex` and a new constant the instance, and the constant is brought.
 pub(crate) fn new_constant<'a>(sig: &Sig, b: &'a OpenBranch, u: &RuleUse) -> Option<Conclusion<'a>>
+    requires { HasMarks sig.now b.now }
     ensures { option_map concluded result
         ≡ spec.new_constant (sig_view sig.now) (branch_view b.now) (use_view u.now) }
 {

@@ -427,8 +427,44 @@ fn quantifiers(rt: HostRuntime) -> Result<(), Fail> {
 0v01R+0E0v01R-0A/4:1:7c::/0 4
 0v01R+0E0v01R-0A/4:0:1i::/0 4
 0v01R+0E0v01R-0A/4:00:7c::/0 4
+0v01R+0A0v01R-0E0v01R-0E2|/2:1::: 4:2:7c:: 3:0:7c:: 6:43::: 4:2:7c:: 3:0:7c:: 6:43:::/ok
+0v01R+0A0v01R-0E0v01R-0E2|/2:1::: 4:2:7c:: 3:0:7c:: 6:43::: 4:2:6c:: 3:0:7c::/5 3
+0v01R+0E0c01R-/4:0:0c:: 6:21:::/0 4
+0v01R+0E0c01R-/4:0:7c:: 6:21:::/1 6
 0c01R+0E0c01R-/4:0:7c:: 4:0:7c:: 6:21:::/ok";
     assert_eq!(rt; wrong_line(rt.alloc(), table)?, None);
+    Ok(())
+}
+
+/// A plain sort with a relation, and these constants, all of the sort.
+fn one_sort(alloc: Global, consts: &[u32]) -> Result<Option<Sig>, Memory> {
+    let mut sorts = List::new(alloc);
+    sorts.push(Sort::Plain)?;
+    let fns = List::new(alloc);
+    Ok(Sig::new(
+        sorts,
+        copy_list(alloc, consts)?,
+        fns,
+        rels(alloc)?,
+        List::new(alloc),
+    ))
+}
+
+/// Whether the verdict of a line is that of its tree, over one sort with these constants.
+fn is_right_over(alloc: Global, consts: &[u32], line: &str) -> Result<bool, Memory> {
+    match one_sort(alloc, consts)? {
+        Some(sig) => is_right(alloc, &sig, line),
+        None => Ok(false),
+    }
+}
+
+#[test]
+fn sorts_that_may_be_empty(rt: HostRuntime) -> Result<(), Fail> {
+    let alloc = rt.alloc();
+    let unknown = "0v01R+0A0v01R-0A/3:0:7c:: 3:1:7c:: 6:23:::/0 3";
+    assert_eq!(rt; is_right_over(alloc, &[], unknown)?, true);
+    let known = "0v01R+0A0v01R-0A/3:0:0c:: 3:1:0c:: 6:23:::/ok";
+    assert_eq!(rt; is_right_over(alloc, &[0], known)?, true);
     Ok(())
 }
 

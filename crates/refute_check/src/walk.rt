@@ -1,22 +1,25 @@
 //! The walk through a tree. It keeps one branch, the one that it stands on. Of a branch that waits
 //! it keeps how much of that branch it begins with, so that none is copied.
-ghost use Rattle.std.specs.Prelude.{◌≡◌, suc, List as Items, ◌∷◌, ◌++◌, IfOk, OnOk, IsErrOf, Some, None, true, length, map, take, reverse};
+ghost use Rattle.std.specs.Prelude.{◌≡◌, ◌≤◌, suc, List as Items, ◌∷◌, ◌++◌, IfOk, OnOk, IsErrOf, Some, None, true, length, map, take, reverse};
 ghost use Rattle.rp_logic.specs.SigView.{sig_view};
+ghost use Rattle.refute_defs.specs.Branches.{root};
 ghost use Rattle.refute_defs.specs.Uses.{Nd};
 ghost use Rattle.refute_defs.specs.Verdicts.{Bad, verdict, verdict_from};
 ghost use Rattle.refute_defs.specs.Views.{node_view, given_view};
 ghost use Rattle.refute_check.specs.Lent.{branch_view};
 ghost use Rattle.refute_check.specs.Added.{addition_view};
 ghost use Rattle.refute_check.specs.Answers.{IsVerdict, IfBad};
+ghost use Rattle.refute_check.specs.Marks.{HasMarks};
 ghost use Rattle.refute_check.specs.Waits.{waiting_branch, waiting_branches, open_branches, AreWithin, wait, node_children, node_rule};
 
 use crate::additions::Addition;
-use crate::branch::OpenBranch;
+use crate::branch::{OpenBranch, add_formula};
 use crate::conclude::children;
 use crate::error::CheckErr;
+use crate::marks::drop_marks;
 use crate::stop::Stop;
 use refute_defs::Node;
-use rp_logic::{Fml, Sig, copy_formulas};
+use rp_logic::{Fml, Sig};
 use rp_value::{List, Memory};
 use std::alloc::Global;
 
@@ -38,10 +41,27 @@ fn shorten<T: Drop>(list: &mut List<T>, n: u32)
     }
 }
 
+/// Lets go all but the first formulas and constants of the branch.
+fn go_back(sig: &Sig, b: &mut OpenBranch, formulas: u32, added: u32)
+    requires fewer { formulas ≤ length b.old.formulas }
+    requires marked { HasMarks sig.now b.old }
+    ensures formulas { b.new.formulas ≡ take formulas b.old.formulas }
+    ensures added { b.new.added ≡ take added b.old.added }
+    ensures marked { HasMarks sig.now b.new }
+{
+    shorten(&mut b.formulas, formulas);
+    shorten(&mut b.added, added);
+    drop_marks(&mut b.marks, formulas);
+}
+
 /// The branch that waited becomes the one that is kept.
 #[tactic(auto, using(crate::proofs::Walks::kept_formulas))]
-fn enter(b: &mut OpenBranch, waiting: Waiting) -> Result<(), Memory>
-    ensures { OnOk result (branch_view b.new ≡ waiting_branch (branch_view b.old) waiting) }
+fn enter(sig: &Sig, b: &mut OpenBranch, waiting: Waiting) -> Result<(), Memory>
+    requires fewer { waiting.formulas ≤ length b.old.formulas }
+    requires marked { HasMarks sig.now b.old }
+    ensures branch { OnOk result
+        (branch_view b.new ≡ waiting_branch (branch_view b.old) waiting) }
+    ensures marked { OnOk result (HasMarks sig.now b.new) }
 {
     let Waiting {
         formulas,
@@ -49,9 +69,8 @@ fn enter(b: &mut OpenBranch, waiting: Waiting) -> Result<(), Memory>
         addition,
     } = waiting;
     let Addition { formula, brings } = addition;
-    shorten(&mut b.formulas, formulas);
-    shorten(&mut b.added, added);
-    b.formulas.push(formula)?;
+    go_back(sig, b, formulas, added);
+    add_formula(sig, b, formula)?;
     match brings {
         Some(new) => {
             b.added.push(new)?;
@@ -83,16 +102,18 @@ fn wait_for_each(
 }
 
 /// The next branch that waits becomes the one that is kept. `false` says that there is none.
-fn enter_next(b: &mut OpenBranch, waiting: &mut List<Waiting>) -> Result<bool, Memory>
-    requires { AreWithin b.old waiting.old }
+fn enter_next(sig: &Sig, b: &mut OpenBranch, waiting: &mut List<Waiting>) -> Result<bool, Memory>
+    requires within { AreWithin b.old waiting.old }
+    requires marked { HasMarks sig.now b.old }
     ensures open { IfOk result
         (λ is_open. open_branches is_open (branch_view b.new) waiting.new
         ≡ waiting_branches (branch_view b.old) waiting.old) }
     ensures within { OnOk result (AreWithin b.new waiting.new) }
+    ensures marked { OnOk result (HasMarks sig.now b.new) }
 {
     match waiting.pop() {
         Some(next) => {
-            enter(b, next)?;
+            enter(sig, b, next)?;
             Ok(true)
         }
         None => Ok(false),
@@ -116,6 +137,7 @@ fn children_of(
     b: &OpenBranch,
     node: &Node,
 ) -> Result<List<Addition>, Stop>
+    requires { HasMarks sig.now b.now }
     ensures found { IfOk result
         (λ adds. node_children (sig_view sig.now) (branch_view b.now) (node_view node.now)
         ≡ Some (map addition_view adds)) }
@@ -139,7 +161,8 @@ fn visit(
     node: &Node,
     number: u32,
 ) -> Result<bool, CheckErr>
-    requires { AreWithin b.old waiting.old }
+    requires within { AreWithin b.old waiting.old }
+    requires marked { HasMarks sig.now b.old }
     ensures goes_on { IfOk result
         (λ is_open. (nodes : Items Nd) → verdict_from (sig_view sig.now) number
         (open_branches true (branch_view b.old) waiting.old) (node_view node.now ∷ nodes)
@@ -150,11 +173,12 @@ fn visit(
         (open_branches true (branch_view b.old) waiting.old) (node_view node.now ∷ nodes)
         ≡ Bad m rule) }
     ensures within { OnOk result (AreWithin b.new waiting.new) }
+    ensures marked { OnOk result (HasMarks sig.now b.new) }
 {
     match children_of(alloc, sig, b, node) {
         Ok(adds) => {
             wait_for_each(waiting, b.formulas.count(), b.added.count(), adds)?;
-            Ok(enter_next(b, waiting)?)
+            Ok(enter_next(sig, b, waiting)?)
         }
         Err(Stop::Unmet) => Err(CheckErr::Bad {
             node: number,
@@ -162,6 +186,23 @@ fn visit(
         }),
         Err(Stop::Memory) => Err(CheckErr::Memory),
     }
+}
+
+/// The branch of the root.
+#[tactic(auto, using(crate::proofs::MarkedBranches::started, crate::proofs::Marking::none_marked))]
+fn start(alloc: Global, sig: &Sig, given: &List<Fml>) -> Result<OpenBranch, Memory>
+    ensures branch { IfOk result (λ b. branch_view b ≡ root (given_view given.now)) }
+    ensures marked { IfOk result (λ b. HasMarks sig.now b) }
+{
+    let mut b = OpenBranch {
+        formulas: List::new(alloc),
+        added: List::new(alloc),
+        marks: List::new(alloc),
+    };
+    for f in given.as_slice() {
+        add_formula(sig, &mut b, f.copy(alloc)?)?;
+    }
+    Ok(b)
 }
 
 /// The verdict of the nodes, as trees of the given formulas.
@@ -174,10 +215,7 @@ pub(crate) fn walk(
     ensures { IsVerdict result
         (verdict (sig_view sig.now) (given_view given.now) (map node_view nodes.now)) }
 {
-    let mut b = OpenBranch {
-        formulas: copy_formulas(alloc, given.as_slice())?,
-        added: List::new(alloc),
-    };
+    let mut b = start(alloc, sig, given)?;
     let mut waiting = List::new(alloc);
     let mut is_open = true;
     for n in 0..nodes.count() {

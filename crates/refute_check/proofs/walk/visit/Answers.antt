@@ -6,13 +6,13 @@ use Rattle.refute_check.specs.Waits.{open_branches, wait}
 use Rattle.refute_check.proofs.Walks.{children_within, goes_on}
 use Rattle.refute_check.proofs.walk.visit.Goals as goal
 
-pub enter_next-requires : goal.enter_next-requires
-enter_next-requires c =
+pub enter_next-requires-clause-within : goal.enter_next-requires-clause-within
+enter_next-requires-clause-within c =
     children_within c.args.b.now c.in-Ok.adds c.args.waiting.now c.wait_for_each.new.waiting
     (c.in_ok-wait_for_each-in-Ok.ensures ∙ ap₂
     (λ n m. map (wait n m) c.in-Ok.adds ++ reverse c.args.waiting.now) c.count.ensures.length
     c.count-in-Ok.ensures.length)
-    c.requires
+    c.requires.within
 
 pub returns-in_ok-enter_next-in-Ok-clause-goes_on :
     goal.returns-in_ok-enter_next-in-Ok-clause-goes_on

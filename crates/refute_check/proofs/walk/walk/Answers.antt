@@ -47,4 +47,5 @@ loop-n-preserved c =
           (c.in_ok-is_open.ensures.goes_on (map node_view (drop (suc c.loop-n.n) c.args.nodes.now)))
           ∙ next_node S c.loop-n.n after c.args.nodes.now;
       within = c.in_ok-is_open.ensures.within;
+      marked = c.in_ok-is_open.ensures.marked;
     }

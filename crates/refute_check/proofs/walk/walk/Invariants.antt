@@ -3,6 +3,7 @@ use Rattle.rp_logic.specs.SigView.{sig_view}
 use Rattle.refute_defs.specs.Views.{node_view, given_view}
 use Rattle.refute_defs.specs.Verdicts.{verdict, verdict_from}
 use Rattle.refute_check.specs.Lent.{branch_view}
+use Rattle.refute_check.specs.Marks.{HasMarks}
 use Rattle.refute_check.specs.Waits.{open_branches, AreWithin}
 use Rattle.refute_check.proofs.walk.walk.Given as goal
 
@@ -12,4 +13,5 @@ invariant-loop-n l = record {
       ≡ verdict_from (sig_view l.sig) l.n (open_branches l.is_open (branch_view l.b) l.waiting)
       (map node_view (drop l.n l.nodes));
   within : AreWithin l.b l.waiting;
+  marked : HasMarks l.sig l.b;
 }
