@@ -1,0 +1,13 @@
+pub mod Rows
+pub mod Names
+pub mod Uses
+pub mod Types
+pub mod Words
+pub mod Operands
+pub mod Terms
+pub mod Paths
+pub mod Arguments
+pub mod Variables
+pub mod Matches
+pub mod Blocks
+pub mod Values

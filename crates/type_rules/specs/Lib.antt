@@ -1,0 +1,16 @@
+pub mod Names
+pub mod Kinds
+pub mod Starts
+pub mod Paths
+pub mod Accesses
+pub mod Typing
+pub mod Queries
+pub mod Sites
+pub mod Matches
+pub mod ExprSites
+pub mod Flow
+pub mod StmtSites
+pub mod DeclSites
+pub mod TextSites
+pub mod Rules
+pub mod Faults
