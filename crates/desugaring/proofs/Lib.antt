@@ -1,0 +1,9 @@
+pub mod Options
+pub mod Sound
+pub mod Found
+pub mod SoundStmts
+pub mod FoundStmts
+pub mod Programs
+pub mod Fields
+pub mod Depths
+pub mod DepthsLaw

@@ -1,0 +1,15 @@
+pub mod Appearances
+pub mod Objects
+pub mod Parts
+pub mod Tables
+pub mod Values
+pub mod Callees
+pub mod Expressions
+pub mod Meanings
+pub mod Statements
+pub mod Runs
+pub mod Programs
+pub mod SetTrees
+pub mod Rows
+pub mod Limits
+pub mod Depths
