@@ -1,5 +1,5 @@
 /// What a query of a counter or of a register finds.
-#[derive(Clone, Copy, Debug, PartialEq, Eq)]
+#[derive(Clone, Copy, PartialEq, Eq)]
 pub enum Found {
     Sum(i128),
     /// The call that assigned the value.

@@ -1,7 +1,7 @@
 use rp_value::{List, Value};
 
 /// A call of a history. The past is strictly ascending.
-#[derive(Debug, Drop, PartialEq, Eq)]
+#[derive(Drop)]
 pub struct CallRec {
     /// The operation's number in the program.
     pub op: u32,

@@ -14,7 +14,7 @@ use std::marker::Model;
 pub(crate) const MOST: usize = 16_384;
 
 /// The calls of a store, numbered from 0. A past is made of earlier calls.
-#[derive(Debug, Drop)]
+#[derive(Drop)]
 pub struct History {
     calls: List<CallRec>,
 }

@@ -21,7 +21,7 @@ pub trait View {
 }
 
 /// The calls of a strictly ascending list.
-#[derive(Debug, Drop)]
+#[derive(Drop)]
 pub struct ListView {
     calls: List<u32>,
 }

@@ -17,7 +17,7 @@ use rp_value::{Boxed, List, Memory};
 use std::alloc::Global;
 
 /// A formula that a node adds for one of its children, and the constant that comes with it.
-#[derive(Debug, Drop)]
+#[derive(Drop)]
 pub(crate) struct Addition {
     pub formula: Fml,
     pub brings: Option<NewConst>,

@@ -16,7 +16,7 @@ use rp_value::{List, Memory};
 
 /// The given formulas, then the added ones, each at its place, the constants that were brought, the
 /// oldest first, and marks of the constants past the signature's that stand in the formulas.
-#[derive(Debug, Drop)]
+#[derive(Drop)]
 pub(crate) struct OpenBranch {
     pub formulas: List<Fml>,
     pub added: List<NewConst>,

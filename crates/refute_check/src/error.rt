@@ -1,7 +1,7 @@
 use rp_value::Memory;
 
 /// Why a tree isn't accepted.
-#[derive(Clone, Copy, Debug, PartialEq, Eq)]
+#[derive(Clone, Copy, PartialEq, Eq)]
 pub enum CheckErr {
     /// The first node, in preorder, that doesn't meet its rule. The rule is 0 for a leaf that isn't
     /// a rule, for a node that is missing, which has the number of nodes for its number, and for a

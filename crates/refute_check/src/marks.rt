@@ -8,7 +8,7 @@ use rp_logic::{Atom, Fml, Term};
 use rp_value::{List, Memory};
 
 /// A constant, and the first place of the branch where it stands.
-#[derive(Clone, Copy, Debug)]
+#[derive(Clone, Copy)]
 pub(crate) struct Mark {
     pub number: u32,
     pub place: u32,

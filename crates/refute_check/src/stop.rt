@@ -1,7 +1,7 @@
 use rp_value::Memory;
 
 /// Why there is no formula.
-#[derive(Clone, Copy, Debug, PartialEq, Eq)]
+#[derive(Clone, Copy, PartialEq, Eq)]
 pub(crate) enum Stop {
     /// The node doesn't meet its rule.
     Unmet,

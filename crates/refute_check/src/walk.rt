@@ -25,7 +25,7 @@ use std::alloc::Global;
 
 /// A branch that is still to be closed: with how many formulas and constants of the branch that is
 /// kept it begins, and what is added to them.
-#[derive(Debug, Drop)]
+#[derive(Drop)]
 pub(crate) struct Waiting {
     pub formulas: u32,
     pub added: u32,

@@ -9,7 +9,7 @@ use rp_value::{Bytes, List, Memory};
 use std::alloc::Global;
 
 /// How a command ends.
-#[derive(Clone, Copy, Debug, PartialEq, Eq)]
+#[derive(Clone, Copy, PartialEq, Eq)]
 pub enum Status {
     Fine,
     Found,
@@ -36,7 +36,7 @@ impl Status {
 }
 
 /// An unproved goal: its number from 1, its procedure, the choices on its path, and where its statement stands.
-#[derive(Debug, Drop)]
+#[derive(Drop)]
 pub struct GoalLine {
     pub goal: u32,
     pub proc: Bytes,
@@ -45,7 +45,7 @@ pub struct GoalLine {
 }
 
 /// What a command tells.
-#[derive(Debug, Drop)]
+#[derive(Drop)]
 pub enum Report {
     Verified { goals: u32 },
     Unproved { goals: u32, list: List<GoalLine> },

@@ -56,7 +56,7 @@ fn put_report<K: Sink>(alloc: Global, out: &mut K, report: &Report) -> Status
 }
 
 /// Why there is no report.
-#[derive(Clone, Copy, Debug, PartialEq, Eq)]
+#[derive(Clone, Copy, PartialEq, Eq)]
 enum Stop {
     Unread,
     NoMemory,

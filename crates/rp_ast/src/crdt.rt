@@ -5,14 +5,14 @@ use rp_value::{Boxed, List};
 
 /// A replicated data type as it is written.
 #[cycle(crdt)]
-#[derive(Debug, Drop)]
+#[derive(Drop)]
 pub struct CrdtNode {
     pub span: Span,
     pub what: CrdtForm,
 }
 
 #[cycle(crdt)]
-#[derive(Debug, Drop)]
+#[derive(Drop)]
 pub enum CrdtForm {
     /// A set where an element added and removed concurrently stays.
     SetAw(TypeNode),
@@ -31,7 +31,7 @@ pub enum CrdtForm {
 
 /// A named part of a `CrdtForm::Struct`.
 #[cycle(crdt)]
-#[derive(Debug, Drop)]
+#[derive(Drop)]
 pub struct FieldNode {
     pub name: Ident,
     pub crdt: CrdtNode,

@@ -7,19 +7,19 @@ use rp_span::Span;
 use rp_value::List;
 
 /// The tree of a program.
-#[derive(Debug, Drop)]
+#[derive(Drop)]
 pub struct Ast {
     pub decls: List<Decl>,
 }
 
 /// A declaration.
-#[derive(Debug, Drop)]
+#[derive(Drop)]
 pub struct Decl {
     pub span: Span,
     pub what: DeclForm,
 }
 
-#[derive(Debug, Drop)]
+#[derive(Drop)]
 pub enum DeclForm {
     IdType(Ident),
     Opaque(Ident),
@@ -31,13 +31,13 @@ pub enum DeclForm {
 }
 
 /// A constructor of a datatype, and its fields.
-#[derive(Debug, Drop)]
+#[derive(Drop)]
 pub struct ConNode {
     pub name: Ident,
     pub fields: List<Param>,
 }
 
-#[derive(Debug, Drop)]
+#[derive(Drop)]
 pub struct QueryNode {
     pub name: Ident,
     pub params: List<Param>,
@@ -45,7 +45,7 @@ pub struct QueryNode {
     pub body: ExprNode,
 }
 
-#[derive(Debug, Drop)]
+#[derive(Drop)]
 pub struct ProcNode {
     pub name: Ident,
     pub params: List<Param>,

@@ -6,7 +6,7 @@ use rp_value::{Boxed, Bytes, List};
 
 /// An expression. Parentheses around it are no part of its span.
 #[cycle(expr)]
-#[derive(Debug, Drop)]
+#[derive(Drop)]
 pub struct ExprNode {
     pub span: Span,
     pub what: ExprForm,
@@ -15,7 +15,7 @@ pub struct ExprNode {
 /// What an expression is. Parts that are large or rare stand in boxes, so that a node is cheap to
 /// hand on.
 #[cycle(expr)]
-#[derive(Debug, Drop)]
+#[derive(Drop)]
 pub enum ExprForm {
     Implies(Boxed<ExprNode>, Boxed<ExprNode>),
     /// A chain of two or more.
@@ -44,7 +44,7 @@ pub enum ExprForm {
 
 /// An arm of an `ExprForm::Match`.
 #[cycle(expr)]
-#[derive(Debug, Drop)]
+#[derive(Drop)]
 pub struct ExprArm {
     pub pattern: PatternNode,
     pub body: ExprNode,
@@ -52,7 +52,7 @@ pub struct ExprArm {
 
 /// A root, the steps from it, and the arguments, where it has parentheses of its own.
 #[cycle(expr)]
-#[derive(Debug, Drop)]
+#[derive(Drop)]
 pub struct AccessNode {
     pub root: Ident,
     pub steps: List<AccessStep>,
@@ -60,7 +60,7 @@ pub struct AccessNode {
 }
 
 #[cycle(expr)]
-#[derive(Debug, Drop)]
+#[derive(Drop)]
 pub enum AccessStep {
     Dot(Ident),
     Returned(Span),
@@ -69,7 +69,7 @@ pub enum AccessStep {
 
 /// A constructor, which may be one of the words `none`, `some`, `true` and `false`,
 /// and its variables.
-#[derive(Debug, Drop)]
+#[derive(Drop)]
 pub struct PatternNode {
     pub con: Ident,
     pub vars: List<Ident>,

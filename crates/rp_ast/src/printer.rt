@@ -10,7 +10,7 @@ mod ty;
 pub use decl::print;
 
 /// How an expression stands in what is printed.
-#[derive(Clone, Copy, Debug, PartialEq, Eq)]
+#[derive(Clone, Copy, PartialEq, Eq)]
 enum Place {
     /// Nothing beside it could be taken for a part of it.
     Whole,

@@ -6,21 +6,21 @@ use rp_value::{Boxed, List};
 
 /// Statements in braces.
 #[cycle(stmt)]
-#[derive(Debug, Drop)]
+#[derive(Drop)]
 pub struct Block {
     pub span: Span,
     pub stmts: List<StmtNode>,
 }
 
 #[cycle(stmt)]
-#[derive(Debug, Drop)]
+#[derive(Drop)]
 pub struct StmtNode {
     pub span: Span,
     pub what: StmtForm,
 }
 
 #[cycle(stmt)]
-#[derive(Debug, Drop)]
+#[derive(Drop)]
 pub enum StmtForm {
     Var(Ident, TypeNode, Option<ExprNode>),
     /// A variable, and the type of its new id.
@@ -36,7 +36,7 @@ pub enum StmtForm {
 
 /// What stands behind an `else`.
 #[cycle(stmt)]
-#[derive(Debug, Drop)]
+#[derive(Drop)]
 pub enum ElseNode {
     Block(Block),
     /// A further `if`.
@@ -45,7 +45,7 @@ pub enum ElseNode {
 
 /// An arm of a `StmtForm::Match`.
 #[cycle(stmt)]
-#[derive(Debug, Drop)]
+#[derive(Drop)]
 pub struct BlockArm {
     pub pattern: PatternNode,
     pub body: Block,

@@ -4,14 +4,14 @@ use rp_value::{Boxed, Bytes};
 
 /// A type as it is written.
 #[cycle(ty)]
-#[derive(Debug, Drop)]
+#[derive(Drop)]
 pub struct TypeNode {
     pub span: Span,
     pub what: TypeForm,
 }
 
 #[cycle(ty)]
-#[derive(Debug, Drop)]
+#[derive(Drop)]
 pub enum TypeForm {
     Named(Bytes),
     Bool,
@@ -23,7 +23,7 @@ pub enum TypeForm {
 }
 
 /// A name with its type: a parameter, a field of a constructor or a quantified variable.
-#[derive(Debug, Drop)]
+#[derive(Drop)]
 pub struct Param {
     pub name: Ident,
     pub ty: TypeNode,

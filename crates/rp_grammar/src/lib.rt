@@ -11,7 +11,7 @@ use rp_span::Span;
 pub use terminal::{Symbol, Word};
 
 /// What a token is.
-#[derive(Clone, Copy, Debug, PartialEq, Eq)]
+#[derive(Clone, Copy, PartialEq, Eq)]
 pub enum TokenKind {
     Name,
     /// A reserved word.
@@ -24,7 +24,7 @@ pub enum TokenKind {
 }
 
 /// A token and where it stands.
-#[derive(Clone, Copy, Debug, PartialEq, Eq)]
+#[derive(Clone, Copy, PartialEq, Eq)]
 pub struct Token {
     pub kind: TokenKind,
     pub span: Span,
@@ -42,7 +42,7 @@ pub enum LexFault {
 }
 
 /// What stands at the front of some bytes, with its length; of a fault, how far on it stands.
-#[derive(Clone, Copy, Debug, PartialEq, Eq)]
+#[derive(Clone, Copy, PartialEq, Eq)]
 pub enum Piece {
     /// There are no bytes left.
     Ended,

@@ -1,7 +1,7 @@
 //! Operators and words that one kind of node tells apart.
 
 /// How two sums are compared.
-#[derive(Clone, Copy, Debug, PartialEq, Eq)]
+#[derive(Clone, Copy, PartialEq, Eq)]
 pub enum CompareOp {
     Equal,
     NotEqual,
@@ -12,7 +12,7 @@ pub enum CompareOp {
 }
 
 /// A word that is called like a function.
-#[derive(Clone, Copy, Debug, PartialEq, Eq)]
+#[derive(Clone, Copy, PartialEq, Eq)]
 pub enum CallWord {
     Visible,
     Before,

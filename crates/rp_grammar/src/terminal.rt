@@ -1,7 +1,7 @@
 //! The words and symbols of the language.
 
 /// A reserved word.
-#[derive(Clone, Copy, Debug, PartialEq, Eq)]
+#[derive(Clone, Copy, PartialEq, Eq)]
 pub enum Word {
     IdType,
     Type,
@@ -52,7 +52,7 @@ pub enum Word {
 }
 
 /// A symbol.
-#[derive(Clone, Copy, Debug, PartialEq, Eq)]
+#[derive(Clone, Copy, PartialEq, Eq)]
 pub enum Symbol {
     OpenBrace,
     CloseBrace,

@@ -2,7 +2,7 @@ use rp_value::{Boxed, Bytes, List, Ty};
 
 /// A replicated data type. A map has its keys' type and what it holds at each key.
 #[cycle(crdt)]
-#[derive(Debug, Drop)]
+#[derive(Drop)]
 pub enum Crdt {
     /// A set where an element added and removed concurrently stays.
     SetAw(Ty),
@@ -22,7 +22,7 @@ pub enum Crdt {
 
 /// A named part of a `Crdt::Struct`.
 #[cycle(crdt)]
-#[derive(Debug, Drop)]
+#[derive(Drop)]
 pub struct Field {
     pub name: Bytes,
     pub crdt: Crdt,

@@ -11,7 +11,7 @@ use crate::root::Root;
 use rp_value::{ConTable, List, Ty, TypeTable};
 
 /// The parts of a program, before they are tested.
-#[derive(Debug, Drop)]
+#[derive(Drop)]
 pub struct Draft {
     pub types: TypeTable,
     pub cons: ConTable,

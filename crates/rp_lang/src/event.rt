@@ -1,7 +1,7 @@
 use rp_span::Span;
 
 /// What a step did.
-#[derive(Clone, Copy, Debug, PartialEq, Eq)]
+#[derive(Clone, Copy, PartialEq, Eq)]
 pub enum Event {
     Moved,
     /// A check found no violation.
@@ -10,7 +10,7 @@ pub enum Event {
 }
 
 /// What a step violated: the assertion at a place, or an invariant by its number.
-#[derive(Clone, Copy, Debug, PartialEq, Eq)]
+#[derive(Clone, Copy, PartialEq, Eq)]
 pub enum What {
     Assertion(Span),
     Invariant(u32),

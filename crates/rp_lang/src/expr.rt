@@ -5,7 +5,7 @@ ghost use Rattle.rp_lang.specs.Views.{expr_view, exprs_view};
 use rp_value::{Boxed, Bytes, List};
 
 /// An expression of a program. Operations, queries, procedures and constructors go by their numbers.
-#[derive(Debug, Drop)]
+#[derive(Drop)]
 pub enum Expr {
     Slot(u32),
     /// The variable of the n-th enclosing binder, from 0 for the innermost.

@@ -7,7 +7,7 @@ use rp_value::{Boxed, List, Ty};
 
 /// A formula of a program.
 #[cycle(formula)]
-#[derive(Debug, Drop)]
+#[derive(Drop)]
 pub enum Formula {
     And(List<Formula>),
     Or(List<Formula>),
@@ -30,7 +30,7 @@ pub enum Formula {
 
 /// An arm of a `Formula::Match`. It binds one variable a field of its constructor, the last field innermost.
 #[cycle(formula)]
-#[derive(Debug, Drop)]
+#[derive(Drop)]
 pub struct Arm {
     pub con: u32,
     pub body: Formula,

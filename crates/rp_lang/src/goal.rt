@@ -2,7 +2,7 @@ use rp_span::Span;
 use rp_value::List;
 
 /// What a goal is about: its kind, its procedure and the path through it, its place, and its invariant.
-#[derive(Debug, Drop, PartialEq, Eq)]
+#[derive(Drop)]
 pub struct GoalName {
     pub kind: GoalKind,
     pub proc: Option<u32>,
@@ -11,7 +11,7 @@ pub struct GoalName {
     pub inv: Option<u32>,
 }
 
-#[derive(Clone, Copy, Debug, PartialEq, Eq)]
+#[derive(Clone, Copy, PartialEq, Eq)]
 pub enum GoalKind {
     Init,
     Invoke,

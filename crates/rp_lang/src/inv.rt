@@ -3,7 +3,7 @@ use rp_span::Span;
 use rp_value::Bytes;
 
 /// An invariant of a program.
-#[derive(Debug, Drop)]
+#[derive(Drop)]
 pub struct InvDecl {
     pub name: Bytes,
     pub at: Span,

@@ -2,7 +2,7 @@ ghost use Rattle.std.specs.Prelude.{◌≡◌};
 ghost use Rattle.rp_lang.specs.Limits.{limit_text, limit_number};
 
 /// A limit on what is read, checked or run.
-#[derive(Clone, Copy, Debug, PartialEq, Eq)]
+#[derive(Clone, Copy, PartialEq, Eq)]
 pub enum LimitName {
     /// The bytes of a program's text.
     ProgramBytes,

@@ -1,7 +1,7 @@
 use rp_value::{List, Ty};
 
 /// An operation on the part of a root that a path leads to. Operation 0 of a program is `tx`.
-#[derive(Debug, Drop, PartialEq, Eq)]
+#[derive(Drop)]
 pub struct OpDecl {
     pub root: u32,
     pub path: List<PathStep>,
@@ -10,13 +10,13 @@ pub struct OpDecl {
 }
 
 /// One step from a replicated object to a part of it: a field by its number, or a key of a type.
-#[derive(Clone, Copy, Debug, PartialEq, Eq)]
+#[derive(Clone, Copy, PartialEq, Eq)]
 pub enum PathStep {
     Field(u32),
     Key(Ty),
 }
 
-#[derive(Clone, Copy, Debug, PartialEq, Eq)]
+#[derive(Clone, Copy, PartialEq, Eq)]
 pub enum OpKind {
     /// Opens a transaction, and changes nothing.
     Tx,

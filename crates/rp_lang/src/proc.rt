@@ -3,7 +3,7 @@ use rp_span::Span;
 use rp_value::{Bytes, List, Ty};
 
 /// A procedure of a program.
-#[derive(Debug, Drop)]
+#[derive(Drop)]
 pub struct ProcDecl {
     pub name: Bytes,
     /// Where it stands, from its first word to its closing brace.

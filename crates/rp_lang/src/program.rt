@@ -15,7 +15,7 @@ use rp_value::{AtomType, ConDecl, ConTable, DataDecl, List, Memory, TypeTable, c
 use std::alloc::Global;
 
 /// A well-formed program: all numbers in it are in range, it is well typed, and it is within the limits.
-#[derive(Debug, Drop)]
+#[derive(Drop)]
 pub struct Program {
     pub types: TypeTable,
     pub cons: ConTable,

@@ -2,7 +2,7 @@ use crate::op::PathStep;
 use rp_value::{List, Ty};
 
 /// A query of the part of a root that a path leads to.
-#[derive(Debug, Drop, PartialEq, Eq)]
+#[derive(Drop)]
 pub struct QueryDecl {
     pub root: u32,
     pub path: List<PathStep>,
@@ -11,7 +11,7 @@ pub struct QueryDecl {
     pub result: Ty,
 }
 
-#[derive(Clone, Copy, Debug, PartialEq, Eq)]
+#[derive(Clone, Copy, PartialEq, Eq)]
 pub enum QueryKind {
     Contains,
     HasKey,

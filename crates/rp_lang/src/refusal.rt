@@ -2,7 +2,7 @@ use crate::step::Action;
 use rp_value::Value;
 
 /// Why a step was refused.
-#[derive(Debug, Drop, PartialEq, Eq)]
+#[derive(Drop)]
 pub enum Refusal {
     NoInvocation(u32),
     NotRunning(u32),

@@ -4,7 +4,7 @@ use rp_value::{List, Memory, Value, copy_list, copy_values};
 use std::alloc::Global;
 
 /// One step of a run. A list `sees` is strictly ascending.
-#[derive(Debug, Drop, PartialEq, Eq)]
+#[derive(Drop)]
 pub enum Step {
     Invoke {
         proc: u32,
@@ -41,7 +41,7 @@ pub enum Step {
 }
 
 /// What an invocation does next.
-#[derive(Clone, Copy, Debug, PartialEq, Eq)]
+#[derive(Clone, Copy, PartialEq, Eq)]
 pub enum Action {
     Begin,
     Op,

@@ -9,14 +9,14 @@ use rp_value::List;
 
 /// A statement of a procedure, with the place where it stands.
 #[cycle(stmt)]
-#[derive(Debug, Drop)]
+#[derive(Drop)]
 pub struct Stmt {
     pub at: Span,
     pub what: StmtKind,
 }
 
 #[cycle(stmt)]
-#[derive(Debug, Drop)]
+#[derive(Drop)]
 pub enum StmtKind {
     /// Puts the value of the expression into the slot.
     Put(u32, Expr),
@@ -34,7 +34,7 @@ pub enum StmtKind {
 
 /// An arm of a `StmtKind::Match`. The fields of its constructor go into its slots.
 #[cycle(stmt)]
-#[derive(Debug, Drop)]
+#[derive(Drop)]
 pub struct StmtArm {
     pub con: u32,
     pub slots: List<u32>,

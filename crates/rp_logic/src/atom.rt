@@ -5,7 +5,7 @@ use rp_value::{List, Memory};
 use std::alloc::Global;
 
 /// An atomic formula.
-#[derive(Debug, Drop)]
+#[derive(Drop)]
 pub enum Atom {
     Equal(Term, Term),
     /// a is at most b + k.

@@ -5,7 +5,7 @@ use rp_value::{Boxed, List, Memory};
 use std::alloc::Global;
 
 /// A formula, with negation at its literals alone. Formulas may nest as deep as the stack allows.
-#[derive(Debug, Drop)]
+#[derive(Drop)]
 pub enum Fml {
     And(List<Fml>),
     /// The disjunction. That of nothing is false.

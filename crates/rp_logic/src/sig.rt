@@ -7,7 +7,7 @@ use rp_value::{List, Memory, copy_list};
 use std::alloc::Global;
 
 /// The sorts, constants, functions, relations and constructors that formulas are over, each named by its number.
-#[derive(Debug, Drop)]
+#[derive(Drop)]
 pub struct Sig {
     pub sorts: List<Sort>,
     /// The sort of each constant.

@@ -5,7 +5,7 @@ use std::alloc::Global;
 
 /// A sort: elements with no structure, of which there may be none, all whole numbers, all lists of bytes, or the
 /// terms of constructors, which are named by their numbers.
-#[derive(Debug, Drop)]
+#[derive(Drop)]
 pub enum Sort {
     Plain,
     Int,
@@ -14,21 +14,21 @@ pub enum Sort {
 }
 
 /// A function, by the sorts of its arguments and of its result.
-#[derive(Debug, Drop)]
+#[derive(Drop)]
 pub struct FnDecl {
     pub args: List<u32>,
     pub result: u32,
 }
 
 /// A constructor, by its datatype and the sorts of its arguments.
-#[derive(Debug, Drop)]
+#[derive(Drop)]
 pub struct LogicCon {
     pub sort: u32,
     pub args: List<u32>,
 }
 
 /// A constant beside those of a signature, with its sort.
-#[derive(Clone, Copy, Debug)]
+#[derive(Clone, Copy)]
 pub struct NewConst {
     pub number: u32,
     pub sort: u32,

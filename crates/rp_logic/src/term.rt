@@ -5,7 +5,7 @@ use std::alloc::Global;
 
 /// A term. Functions, constants and constructors go by their numbers in a `Sig`. Terms may nest as deep as the stack
 /// allows: each function on them calls itself once for each level.
-#[derive(Debug, Drop)]
+#[derive(Drop)]
 pub enum Term {
     /// The variable of the n-th enclosing quantifier, from 0 for the innermost.
     Var(u32),

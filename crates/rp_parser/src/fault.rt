@@ -1,7 +1,7 @@
 use rp_value::Memory;
 
 /// Why the tokens are not read. A place is how many tokens are left, with the one that is named.
-#[derive(Clone, Copy, Debug, PartialEq, Eq)]
+#[derive(Clone, Copy, PartialEq, Eq)]
 pub(crate) enum Fault {
     Memory,
     /// No program goes on with this token.

@@ -5,7 +5,7 @@ use crate::Pos;
 use std::marker::Model;
 
 /// The bytes of a text, at most 4,194,304 of them, so that each of its places fits a `u32`.
-#[derive(Debug, Drop)]
+#[derive(Drop)]
 pub struct Text {
     bytes: Vec<u8>,
 }

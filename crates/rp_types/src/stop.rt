@@ -1,7 +1,7 @@
 use rp_value::Memory;
 
 /// Why there is no program.
-#[derive(Clone, Copy, Debug, PartialEq, Eq)]
+#[derive(Clone, Copy, PartialEq, Eq)]
 pub(crate) enum Stop {
     /// The tree is not of the first form, or passes a limit of it.
     NotFirst,

@@ -6,7 +6,7 @@ use std::marker::Model;
 use std::ops::Deref;
 
 /// A `Box` that contracts see as what it holds.
-#[derive(Debug, Drop)]
+#[derive(Drop)]
 pub struct Boxed<T> {
     inner: Box<T>,
 }

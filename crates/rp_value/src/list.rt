@@ -7,7 +7,7 @@ use std::marker::Model;
 use std::ops::{DerefSlice, Index};
 
 /// A `Vec` that contracts see as the list of its elements. Each place of it fits a `u32`.
-#[derive(Debug, Drop)]
+#[derive(Drop)]
 pub struct List<T> {
     items: Vec<T>,
 }

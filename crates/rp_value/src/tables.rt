@@ -1,7 +1,7 @@
 use crate::list::{Bytes, List};
 
 /// The type of a value. `Atom` and `Datatype` name an entry of a `TypeTable`.
-#[derive(Clone, Copy, Debug, PartialEq, Eq)]
+#[derive(Clone, Copy, PartialEq, Eq)]
 pub enum Ty {
     Int,
     Str,
@@ -15,34 +15,34 @@ pub enum Ty {
 }
 
 /// The id types, opaque types and datatypes of a program.
-#[derive(Debug, Drop, PartialEq, Eq)]
+#[derive(Drop)]
 pub struct TypeTable {
     pub atoms: List<AtomType>,
     pub datatypes: List<DataDecl>,
 }
 
 /// An id type or an opaque type.
-#[derive(Debug, Drop, PartialEq, Eq)]
+#[derive(Drop)]
 pub struct AtomType {
     pub name: Bytes,
     pub is_id: bool,
 }
 
 /// A datatype with the numbers of its constructors, entries of a `ConTable`.
-#[derive(Debug, Drop, PartialEq, Eq)]
+#[derive(Drop)]
 pub struct DataDecl {
     pub name: Bytes,
     pub cons: List<u32>,
 }
 
 /// The constructors of a program. Constructor 0 is `false` and 1 is `true`.
-#[derive(Debug, Drop, PartialEq, Eq)]
+#[derive(Drop)]
 pub struct ConTable {
     pub cons: List<ConDecl>,
 }
 
 /// A constructor: its datatype's number, and the types of its fields.
-#[derive(Debug, Drop, PartialEq, Eq)]
+#[derive(Drop)]
 pub struct ConDecl {
     pub name: Bytes,
     pub of: u32,

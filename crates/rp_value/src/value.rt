@@ -5,7 +5,7 @@ use crate::memory::Memory;
 use std::alloc::Global;
 
 /// A value of a program. `Atom` has its type's number in a `TypeTable`, `Con` its constructor's in a `ConTable`.
-#[derive(Debug, Drop, PartialEq, Eq)]
+#[derive(Drop)]
 pub enum Value {
     Int(i128),
     Str(Bytes),

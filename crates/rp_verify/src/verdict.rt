@@ -6,14 +6,14 @@ use rp_value::{List, Memory};
 use thiserror::Error;
 
 /// A goal that isn't proved, with its number from 1.
-#[derive(Debug, Drop)]
+#[derive(Drop)]
 pub struct Unproved {
     pub goal: u32,
     pub name: GoalName,
 }
 
 /// What `verify` finds of a program's goals.
-#[derive(Debug, Drop)]
+#[derive(Drop)]
 pub enum Verdict {
     Verified { goals: u32 },
     Unproved { goals: u32, list: List<Unproved> },

@@ -1,7 +1,7 @@
 //! Types as the rules tell them apart.
 
 /// What a type is under its `Maybe`s.
-#[derive(Clone, Copy, Debug, PartialEq, Eq)]
+#[derive(Clone, Copy, PartialEq, Eq)]
 pub enum Base {
     Bool,
     Int,
@@ -23,7 +23,7 @@ pub enum Base {
 }
 
 /// A type: so many `Maybe`s around a base.
-#[derive(Clone, Copy, Debug, PartialEq, Eq)]
+#[derive(Clone, Copy, PartialEq, Eq)]
 pub struct Kind {
     pub base: Base,
     pub maybes: u32,

@@ -1,5 +1,5 @@
 /// What a type is written for.
-#[derive(Clone, Copy, Debug, PartialEq, Eq)]
+#[derive(Clone, Copy, PartialEq, Eq)]
 pub enum Role {
     /// An element, a value or a key of a replicated type, or a field of a datatype.
     Field,
