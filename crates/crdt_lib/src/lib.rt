@@ -13,8 +13,6 @@ mod picked;
 mod query;
 mod row;
 mod snapshot;
-#[cfg(test)]
-mod tests;
 mod truths;
 mod view;
 

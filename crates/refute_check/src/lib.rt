@@ -25,5 +25,3 @@ mod walk;
 pub use checker::{are_well_sorted, check};
 pub use error::CheckErr;
 
-#[cfg(test)]
-mod tests;

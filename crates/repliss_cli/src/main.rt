@@ -4,8 +4,6 @@
 mod judge;
 pub mod laws;
 mod report;
-#[cfg(test)]
-mod tests;
 mod top;
 
 use report::Status;

@@ -9,8 +9,6 @@ mod ident;
 pub mod laws;
 mod printer;
 mod stmt;
-#[cfg(test)]
-mod tests;
 mod ty;
 
 pub use crdt::{CrdtForm, CrdtNode, FieldNode};

@@ -20,5 +20,3 @@ pub use os::{OsFiles, OsSink};
 pub use sinks::Sink;
 pub use whole::{ReadErr, read_all};
 
-#[cfg(test)]
-mod tests;

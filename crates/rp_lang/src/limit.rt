@@ -103,15 +103,3 @@ impl LimitName {
         }
     }
 }
-
-#[cfg(test)]
-mod tests {
-    use super::*;
-
-    #[test]
-    fn a_limit_has_a_name_and_a_number(rt: HostRuntime) {
-        assert_eq!(rt; LimitName::ProgramBytes.name(), "program bytes");
-        assert_eq!(rt; LimitName::ProgramBytes.number(), 262_144);
-        assert_eq!(rt; LimitName::Integer.number(), 9_223_372_036_854_775_807);
-    }
-}

@@ -138,5 +138,3 @@ pub fn bool_cons(alloc: Global) -> Result<ConTable, Memory>
     Ok(ConTable { cons })
 }
 
-#[cfg(test)]
-mod tests;

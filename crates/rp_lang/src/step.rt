@@ -84,21 +84,3 @@ impl Step {
         }
     }
 }
-
-#[cfg(test)]
-mod tests {
-    use super::*;
-    use std::test::Fail;
-
-    #[test]
-    fn a_copy_is_equal(rt: HostRuntime) -> Result<(), Fail> {
-        let sees = copy_list(rt.alloc(), [0, 2].as_slice())?;
-        let step = Step::Begin {
-            inv: 0,
-            stamp: 7,
-            sees,
-        };
-        assert_eq!(rt; step.copy(rt.alloc())?, step);
-        Ok(())
-    }
-}

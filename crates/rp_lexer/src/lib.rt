@@ -10,8 +10,6 @@ mod numbers;
 mod scan;
 mod strings;
 mod terminals;
-#[cfg(test)]
-mod tests;
 mod text;
 
 pub use error::LexErr;

@@ -27,5 +27,3 @@ pub use sorted::{has_sort, head_sort, is_sorted_atom, well_sorted};
 pub use substitution::substitute;
 pub use term::{Term, copy_terms, same_terms};
 
-#[cfg(test)]
-mod tests;

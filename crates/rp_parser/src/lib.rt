@@ -18,8 +18,6 @@ mod signs;
 mod starts;
 mod stmt_starts;
 mod stmts;
-#[cfg(test)]
-mod tests;
 mod text;
 mod types;
 

@@ -71,32 +71,3 @@ pub fn line_of(text: &Text, at: u32) -> Pos
         byte: at,
     }
 }
-
-#[cfg(test)]
-mod tests {
-    use super::*;
-    use std::test::Fail;
-
-    #[test]
-    fn lines_and_columns_start_at_one(rt: HostRuntime) -> Result<(), Fail> {
-        // byte 7 is the end of the text, after its last newline
-        let text = Text::new(Vec::from_slice(rt.alloc(), b"ab\n\ncd\n")?);
-        let table = [
-            (0, 1, 1),
-            (1, 1, 2),
-            (2, 1, 3),
-            (3, 2, 1),
-            (4, 3, 1),
-            (6, 3, 3),
-            (7, 4, 1),
-        ];
-        for (byte, line, col) in table {
-            assert_eq!(rt; line_of(&text, byte), Pos { line, col, byte });
-        }
-        assert_eq!(rt; text.bytes(), b"ab\n\ncd\n".as_slice());
-        assert_eq!(rt; text.len(), 7);
-        assert!(rt; !text.is_empty());
-        assert!(rt; Text::new(Vec::new(rt.alloc())).is_empty());
-        Ok(())
-    }
-}

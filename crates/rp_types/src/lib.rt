@@ -10,8 +10,6 @@ mod program;
 mod scope;
 mod stmt;
 mod stop;
-#[cfg(test)]
-mod tests;
 
 pub use laws::{one_program, worked_rows};
 pub use program::first_program;

@@ -68,20 +68,3 @@ impl<T: PartialEq> PartialEq for Boxed<T> {
 impl<T: Eq> Eq for Boxed<T> {
     ghost laws = { T.Eq.laws };
 }
-
-#[cfg(test)]
-mod tests {
-    use super::*;
-    use std::test::Fail;
-
-    #[test]
-    fn a_box_shows_and_gives_back_what_it_holds(rt: HostRuntime) -> Result<(), Fail> {
-        let held: Boxed<u32> = Boxed::new(rt.alloc(), 5)?;
-        assert_eq!(rt; *held.get(), 5);
-        assert_eq!(rt; *held, 5);
-        assert_eq!(rt; held, Boxed::new(rt.alloc(), 5)?);
-        assert_ne!(rt; held, Boxed::new(rt.alloc(), 6)?);
-        assert_eq!(rt; held.into_inner(), 5);
-        Ok(())
-    }
-}

@@ -163,36 +163,3 @@ pub fn copy_bytes(alloc: Global, bytes: &[u8]) -> Result<Bytes, Memory>
 {
     copy_list(alloc, bytes)
 }
-
-#[cfg(test)]
-mod tests {
-    use super::*;
-    use std::test::Fail;
-
-    #[test]
-    fn a_list_grows_and_shrinks_at_its_end(rt: HostRuntime) -> Result<(), Fail> {
-        let mut list: List<u32> = List::new(rt.alloc());
-        assert!(rt; list.is_empty());
-        list.push(4)?;
-        list.push(9)?;
-        assert_eq!(rt; list.len(), 2);
-        assert_eq!(rt; list.count(), 2);
-        assert_eq!(rt; *list.get(0), 4);
-        assert_eq!(rt; list[1], 9);
-        assert_eq!(rt; list.as_slice(), [4, 9].as_slice());
-        assert_eq!(rt; list.iter().copied().max(), Some(9));
-        assert_eq!(rt; list.pop(), Some(9));
-        assert_eq!(rt; list.pop(), Some(4));
-        assert_eq!(rt; list.pop(), None);
-        Ok(())
-    }
-
-    #[test]
-    fn lists_are_equal_where_their_elements_are(rt: HostRuntime) -> Result<(), Fail> {
-        let bytes = copy_bytes(rt.alloc(), b"abc")?;
-        assert_eq!(rt; bytes, List::from_vec(Vec::from_slice(rt.alloc(), b"abc")?));
-        assert_ne!(rt; bytes, copy_bytes(rt.alloc(), b"abd")?);
-        assert_ne!(rt; bytes, copy_bytes(rt.alloc(), b"ab")?);
-        Ok(())
-    }
-}

@@ -13,5 +13,3 @@ mod walk;
 pub use goals::verify;
 pub use verdict::{GoalErr, Unproved, Verdict};
 
-#[cfg(test)]
-mod tests;
