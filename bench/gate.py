@@ -60,7 +60,7 @@ def kind_of(words, folder):
     """What a process of the prover does. Edits are tried on copies, in folders of their own."""
     if "--crate-checked" in words:
         return "builds"
-    if not folder.startswith(f"{TOP}/crates/"):
+    if os.path.basename(os.path.dirname(folder)) != "crates":
         return "edits"
     return "tests" if "--test" in words else "proof"
 
