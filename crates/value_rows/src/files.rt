@@ -5,12 +5,17 @@ use rp_io::{Files, MemFiles, ReadErr, SureFiles, read_all};
 use rp_value::Memory;
 use std::alloc::Global;
 
-/// The files of a word: `NAME=BYTES`, with commas between.
+/// A file of a word, `NAME=BYTES`.
+fn file_of(alloc: Global, word: &str) -> Result<(String, Vec<u8>), Memory> {
+    let (name, bytes) = word.split_once('=').unwrap_or((word, ""));
+    Ok((String::from_str(alloc, name)?, bytes_of(alloc, bytes)?))
+}
+
+/// The files of a word, with commas between.
 fn files_of(alloc: Global, word: &str) -> Result<Vec<(String, Vec<u8>)>, Memory> {
     let mut files = Vec::new(alloc);
     for entry in word.split(',') {
-        let (name, bytes) = entry.split_once('=').unwrap_or((entry, ""));
-        files.push((String::from_str(alloc, name)?, bytes_of(alloc, bytes)?))?;
+        files.push(file_of(alloc, entry)?)?;
     }
     Ok(files)
 }
@@ -47,28 +52,32 @@ fn read<F: Files>(
     }
 }
 
-/// What the calls give, one after another: `NAME:FROM+ROOM` fetches once, and `NAME<LIMIT` reads all.
-fn asked<F: Files>(alloc: Global, files: &mut F, calls: &str) -> Result<String, Memory> {
-    let mut out = String::new(alloc);
+/// Appends what the calls give, one after another: `NAME:FROM+ROOM` fetches once, and `NAME<LIMIT` reads all.
+fn ask<F: Files>(
+    alloc: Global,
+    files: &mut F,
+    calls: &str,
+    out: &mut String,
+) -> Result<(), Memory> {
     for call in calls.split(' ') {
         if let Some((name, place)) = call.split_once(':') {
-            fetch(alloc, files, name, place, &mut out)?;
+            fetch(alloc, files, name, place, out)?;
         } else if let Some((name, limit)) = call.split_once('<') {
-            read(alloc, files, name, limit, &mut out)?;
+            read(alloc, files, name, limit, out)?;
         }
         out.push(';')?;
     }
-    Ok(out)
+    Ok(())
 }
 
 /// `FILES FAILING CALLS`, where FAILING is `sure` for files of which no call fails.
-pub(crate) fn answers(alloc: Global, given: &str) -> Result<String, Memory> {
+pub(crate) fn answers(alloc: Global, given: &str, out: &mut String) -> Result<(), Memory> {
     let (files, calls_that_fail, calls) = three(given);
     let files = files_of(alloc, files)?;
     if calls_that_fail == "sure" {
-        asked(alloc, &mut SureFiles::new(files), calls)
+        ask(alloc, &mut SureFiles::new(files), calls, out)
     } else {
         let failing = failing(alloc, calls_that_fail)?;
-        asked(alloc, &mut MemFiles::new(files, failing), calls)
+        ask(alloc, &mut MemFiles::new(files, failing), calls, out)
     }
 }

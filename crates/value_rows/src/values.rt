@@ -5,27 +5,32 @@ use rp_span::{Text, line_of};
 use rp_value::{Boxed, List, Memory, Value, copy_bytes, copy_list, copy_values};
 use std::alloc::Global;
 
-/// `TEXT BYTE`: the line and the column of the byte, `of` the length of the text.
-pub(crate) fn place(alloc: Global, given: &str) -> Result<String, Memory> {
-    let (word, at) = given.split_once(' ').unwrap_or((given, ""));
-    let bytes = bytes_of(alloc, word)?;
-    if bytes.len() > 4_194_304 {
-        return Ok(String::new(alloc));
-    }
-    let text = Text::new(bytes);
-    let at = number(at);
+/// Appends the line and the column of a byte.
+fn tell_place(text: &Text, at: u32, out: &mut String) -> Result<(), Memory> {
     if at as usize > text.len() {
-        return Ok(String::new(alloc));
+        return Ok(());
     }
-    let pos = line_of(&text, at);
+    let pos = line_of(text, at);
     let rest = if text.is_empty() { "nothing" } else { "text" };
-    Ok(format!(in alloc;
+    write!(
+        out,
         "{}:{} at {} of {} {rest}",
         pos.line,
         pos.col,
         pos.byte,
         text.bytes().len()
-    )?)
+    )?;
+    Ok(())
+}
+
+/// `TEXT BYTE`: the line and the column of the byte, and how long the text is.
+pub(crate) fn place(alloc: Global, given: &str, out: &mut String) -> Result<(), Memory> {
+    let (word, at) = given.split_once(' ').unwrap_or((given, ""));
+    let bytes = bytes_of(alloc, word)?;
+    if bytes.len() > 4_194_304 {
+        return Ok(());
+    }
+    tell_place(&Text::new(bytes), number(at), out)
 }
 
 /// The value that a word writes: `"TEXT`, `TYPE#NUMBER` for an atom, `CONSTRUCTOR(` over all values that stand before it,
@@ -65,76 +70,76 @@ fn values_of(alloc: Global, words: &str) -> Result<List<Value>, Memory> {
     Ok(values)
 }
 
-fn yes_or_no(alloc: Global, is: bool) -> Result<String, Memory> {
-    Ok(String::from_str(alloc, if is { "yes" } else { "no" })?)
+fn tell(is: bool, out: &mut String) -> Result<(), Memory> {
+    out.push_str(if is { "yes" } else { "no" })?;
+    Ok(())
 }
 
-/// `VALUES & VALUES`: whether the last values of the two lines are the same, and a copy of the one too.
-pub(crate) fn same(alloc: Global, given: &str) -> Result<String, Memory> {
-    let (one, other) = given.split_once(" & ").unwrap_or((given, ""));
-    let mut ones = values_of(alloc, one)?;
-    let mut others = values_of(alloc, other)?;
-    let (Some(one), Some(other)) = (ones.pop(), others.pop()) else {
-        return Ok(String::new(alloc));
-    };
+/// Whether the values are the same, where a copy of the one says so too.
+fn are_same(alloc: Global, one: &Value, other: &Value) -> Result<bool, Memory> {
     let copy = one.copy(alloc)?;
-    if copy.same(&one) && copy.same(&other) == one.same(&other) {
-        yes_or_no(alloc, one.same(&other))
-    } else {
-        Ok(String::from_str(alloc, "a copy differs")?)
+    let is_copied = copy.same(one) && copy.same(other) == one.same(other);
+    Ok(is_copied == one.same(other))
+}
+
+/// `VALUES & VALUES`: whether the last values of the two lines are the same.
+pub(crate) fn same(alloc: Global, given: &str, out: &mut String) -> Result<(), Memory> {
+    let (one, other) = given.split_once(" & ").unwrap_or((given, ""));
+    let ones = values_of(alloc, one)?;
+    let others = values_of(alloc, other)?;
+    match (ones.as_slice().last(), others.as_slice().last()) {
+        (Some(one), Some(other)) => tell(are_same(alloc, one, other)?, out),
+        _ => Ok(()),
     }
 }
 
-/// `NUMBERS`: a list of them: how many, the first, the last and the greatest, then what is taken from its end.
-pub(crate) fn list(alloc: Global, given: &str) -> Result<String, Memory> {
-    let mut list: List<u32> = List::new(alloc);
-    for word in given.split(' ') {
+/// The list of the numbers of a line.
+fn numbers_of(alloc: Global, words: &str) -> Result<List<u32>, Memory> {
+    let mut list = List::new(alloc);
+    for word in words.split(' ') {
         if word != "none" {
             list.push(number(word))?;
         }
     }
-    if list.is_empty() {
-        return Ok(String::from_str(
-            alloc,
-            if list.pop().is_none() {
-                "empty"
-            } else {
-                "full"
-            },
-        )?);
+    Ok(list)
+}
+
+/// Appends what is taken from the end of a list, one after another.
+fn take_all(list: &mut List<u32>, out: &mut String) -> Result<(), Memory> {
+    for _ in 0..=list.len() {
+        write!(out, " {:?}", list.pop())?;
     }
-    let len = list.len();
-    let most = list.iter().copied().max().unwrap_or(0);
-    let mut out = format!(in alloc;
-        "{len} {} {} {} {most}",
-        list.count(),
-        *list.get(0),
-        list[len - 1]
-    )?;
-    for _ in 0..len {
-        write!(out, " {}", list.pop().unwrap_or(0))?;
+    Ok(())
+}
+
+/// `NUMBERS`: a list of them: how many, the first, the last and the greatest, then what is taken from its end.
+pub(crate) fn list(alloc: Global, given: &str, out: &mut String) -> Result<(), Memory> {
+    let mut list = numbers_of(alloc, given)?;
+    if !list.is_empty() {
+        let (count, first, last) = (list.count(), *list.get(0), list[list.len() - 1]);
+        let most = list.iter().copied().max().unwrap_or(0);
+        write!(out, "{count} {first} {last} {most}")?;
     }
-    Ok(out)
+    take_all(&mut list, out)
 }
 
 /// `WORD WORD`: whether lists of their bytes are equal.
-pub(crate) fn bytes(alloc: Global, given: &str) -> Result<String, Memory> {
+pub(crate) fn bytes(alloc: Global, given: &str, out: &mut String) -> Result<(), Memory> {
     let (one, other) = given.split_once(' ').unwrap_or((given, ""));
     let bytes = Vec::from_slice(alloc, other.as_bytes())?;
     if bytes.len() > 1_000 {
-        return Ok(String::new(alloc));
+        return Ok(());
     }
-    let list = List::from_vec(bytes);
-    let is_equal = copy_bytes(alloc, one.as_bytes())? == list;
-    let is_equal_too = copy_list(alloc, one.as_bytes())? == list;
-    yes_or_no(alloc, is_equal && is_equal_too)
+    let is_equal = copy_list(alloc, one.as_bytes())? == List::from_vec(bytes);
+    tell(is_equal, out)
 }
 
 /// `NUMBER NUMBER`: what a box of the first shows twice, whether it equals one of the second, and what it gives back.
-pub(crate) fn boxed(alloc: Global, given: &str) -> Result<String, Memory> {
+pub(crate) fn boxed(alloc: Global, given: &str, out: &mut String) -> Result<(), Memory> {
     let (one, other) = given.split_once(' ').unwrap_or((given, ""));
     let held: Boxed<u32> = Boxed::new(alloc, number(one))?;
     let is_equal = held == Boxed::new(alloc, number(other))?;
-    let (shown, again) = (*held.get(), *held);
-    Ok(format!(in alloc; "{shown} {again} {is_equal} {}", held.into_inner())?)
+    let (shown, again, inner) = (*held.get(), *held, held.into_inner());
+    write!(out, "{shown} {again} {is_equal} {inner}")?;
+    Ok(())
 }
