@@ -1,6 +1,6 @@
 -- Appending what is printed.
 use Rattle.std.proofs.Common.{◌≡◌, ℕ, zero, suc, ◌+◌, ◌<◌, length, get_or, drop, List, [], ◌∷◌, ◌++◌, refl, sym, ap, ◌∙◌, append_assoc, append-nil, add-one}
-use Rattle.std.proofs.Math.Seq.{drop-cons}
+use Rattle.std.proofs.lemmas.List.{drop_more}
 use Rattle.rp_grammar.specs.declared.terminal.Symbol.{Symbol}
 use Rattle.rp_grammar.specs.Terminals.{Terminal}
 use Rattle.rp_ast.specs.declared.decl.Decl.{Decl}
@@ -55,7 +55,7 @@ pub plain_end : (rest : List Terminal) (a whole : List ℕ) → rest ≡ [] → 
 plain_end rest a whole e h = sym (append-nil a) ∙ ap (λ v. a ++ followed v) (sym e) ∙ h
 
 drop_item : {X : Type 0} (xs : List X) (i : ℕ) (x : X) → i < length xs → x ≡ get_or xs i x → drop i xs ≡ x ∷ drop (i + 1) xs
-drop_item xs i x h e = drop-cons xs i x h ∙ ap (λ y. y ∷ drop (suc i) xs) (sym e) ∙ ap (λ n. x ∷ drop n xs) (sym (add-one i))
+drop_item xs i x h e = drop_more xs i x h ∙ ap (λ y. y ∷ drop (i + 1) xs) (sym e)
 
 -- the member of number i, printed in a loop
 pub joined_item : {X : Type 0} (of : List X → List (List Terminal)) (m : Symbol) (xs : List X) (i : ℕ) (x : X) (t : List Terminal)

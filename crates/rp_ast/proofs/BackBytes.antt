@@ -3,7 +3,7 @@ use Rattle.std.proofs.Common.{◌≡◌, ℕ, ◌+◌, ◌-◌, ◌<◌, ◌≤�
 use Rattle.std.specs.Prelude.{◌^◌, ◌==◌}
 use Rattle.std.specs.Fmt.{decimal}
 use Rattle.std.proofs.Math.Seq.{take-append_seam, drop-append_seam}
-use Rattle.std.proofs.lemmas.Bool.{leb-true}
+use Rattle.std.proofs.lemmas.Bool.{and_parts, leb-true}
 use Rattle.std.proofs.lemmas.Bool.Decides.{nat_tests, eqb_tells}
 use Rattle.std.proofs.lemmas.List.{drop-drop}
 use Rattle.std.proofs.lemmas.Fmt.{digits_decimal, digits_value-decimal, decimal_nonempty}
@@ -21,7 +21,6 @@ use Rattle.rp_grammar.specs.Lexed.{Lexed, token_at}
 use Rattle.rp_grammar.specs.Spelling.{spelling, mark}
 use Rattle.rp_grammar.specs.Terminals.{Terminal, name, word, int, str, symbol, end, Tok, at}
 use Rattle.rp_grammar.specs.Toks.{Means, escaped, IsTerminal, slice, ToksOf}
-use Rattle.rp_grammar.proofs.Words.{and_left, and_right}
 use Rattle.rp_grammar.proofs.Fronts.{Stops}
 use Rattle.rp_grammar.proofs.Shapes.{reserved_form, reserved_empty}
 use Rattle.rp_grammar.proofs.Tables.{is_word}
@@ -78,7 +77,9 @@ Lexable end = ⊥
 -- # Numbers
 
 digit_parts : (c : ℕ) (cs : List ℕ) → Every is_digit (c ∷ cs) → (48 ≤ c) × (c ≤ 57)
-digit_parts c cs e = (leb-true 48 c (and_left _ _ (e.0)), leb-true c 57 (and_right _ _ (e.0)))
+digit_parts c cs e =
+    let (least, most) = and_parts _ _ (e.0) in
+    (leb-true 48 c least, leb-true c 57 most)
 
 digit_is : (c : ℕ) → 48 ≤ c → c ≤ 57 → is_digit c ≡ true
 digit_is c h k = grind (arith, nat_tests)

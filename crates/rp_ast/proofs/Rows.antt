@@ -1,7 +1,7 @@
 -- The worked rows.
 use Rattle.std.proofs.Common.{refl, arith}
 use Rattle.std.proofs.lemmas.Fmt.{decimal_digit}
-use Rattle.rp_ast.specs.Rows.{Tautology, Numbers, Strings, Quantifiers, Matches, Branches, Datatypes, ReplicatedTypes}
+use Rattle.rp_ast.specs.rows.Rows.{Tautology, Numbers, Strings, Quantifiers, Matches, Branches, Datatypes, ReplicatedTypes}
 
 pub tautology : Tautology
 tautology = refl

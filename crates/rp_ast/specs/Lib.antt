@@ -1,5 +1,5 @@
 pub mod View
-pub mod Words
 pub mod Printed
 pub mod Alike
-pub mod Rows
+pub mod means
+pub mod rows

@@ -6,7 +6,7 @@ ghost use Rattle.rp_grammar.specs.Texts.{IsText};
 ghost use Rattle.rp_ast.specs.View.{ast_view};
 ghost use Rattle.rp_ast.specs.Printed.{printed};
 ghost use Rattle.rp_ast.specs.Alike.{Alike};
-ghost use Rattle.rp_ast.specs.Rows as rows;
+ghost use Rattle.rp_ast.specs.rows.Rows as rows;
 
 use crate::Ast;
 

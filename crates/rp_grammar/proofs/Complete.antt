@@ -4,6 +4,7 @@ use Rattle.std.specs.List.{prefix_len}
 use Rattle.std.proofs.lemmas.Bool.{le-leb, lt-leb, ne_eqb, false_from_ne_true}
 use Rattle.std.proofs.lemmas.Bool.Decides.{eqb_tells}
 use Rattle.std.proofs.lemmas.List.{take_at}
+use Rattle.std.proofs.Math.Seq.{take-append-add}
 use Rattle.rp_grammar.specs.Bytes.{is_blank, is_letter, is_digit, is_name_byte, is_plain, is_escaped, is_inline, is_one_of, symbols, reserved, value, greatest}
 use Rattle.rp_grammar.specs.Pieces.{Every, Chars, Shape, name, word, int, str, symbol, Longest, InRange, EndsLine, BeginsEscaped, Stray, Nothing, Begins, ended, blank, comment, token, number_range, open_string, bad_in_string, bad_byte}
 use Rattle.rp_grammar.specs.Scan.{string_from, symbol_len, symbol_piece, name_kind, piece_of}
@@ -66,17 +67,11 @@ symbol_piece_is : (m n : ℕ) → some_length m ≡ Some n → symbol_piece m �
 symbol_piece_is zero n h = cc
 symbol_piece_is (suc m) n h = rw (ne_eqb (suc m) 0 (λ e. omega arith)) (ap (piece.Token kind.Symbol) (length_of_some (suc m) n h))
 
-take_past : (xs ys : List ℕ) (m n : ℕ) → n ≡ length xs + m → take n (xs ++ ys) ≡ xs ++ take m ys
-take_past [] ys m n e = let z : n ≡ m = omega arith in ap (λ k. take k ys) z
-take_past (x ∷ xs) ys m n e =
-    let z : n ≡ suc (length xs + m) = omega arith in
-    ap (λ k. take k (x ∷ xs ++ ys)) z ∙ ap (λ l. x ∷ l) (take_past xs ys m (length xs + m) refl)
-
 longest_length : (front rest : List ℕ) (n : ℕ) → length front ≤ n → n ≤ length (front ++ rest) → is_one_of symbols (take n (front ++ rest)) ≡ true → Longest front rest → n ≡ length front
 longest_length front rest n low high r h =
     let m : ℕ = n - length front in
     let e : n ≡ length front + (n - length front) = omega arith in
-    let taken = take_past front rest (n - length front) n e in
+    let taken = ap (λ k. take k (front ++ rest)) e ∙ take-append-add front rest (n - length front) in
     let none_more = h kind.Symbol (take (n - length front) rest) (drop (n - length front) rest) (sym (take-append-drop (n - length front) rest)) (symbol (subst (λ x. is_one_of symbols x ≡ true) taken r)) in
     let len : n - length front ≡ 0 = sym (length-take-le (n - length front) rest (omega (arith, length-append front rest))) ∙ ap length none_more in
     omega arith

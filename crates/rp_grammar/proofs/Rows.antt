@@ -22,7 +22,7 @@ use Rattle.std.specs.Prelude.{nat_le}
 use Rattle.std.specs.List.{list_all}
 use Rattle.std.proofs.lemmas.Bool.Decides.{nat_tests}
 use Rattle.rp_grammar.specs.Begins.{AtMost}
-use Rattle.rp_grammar.proofs.Words.{and_left, and_right}
+use Rattle.std.proofs.lemmas.Bool.{and_parts}
 use Rattle.rp_grammar.proofs.Computed.{lexed, toks_of, has_toks}
 
 abbrev placed : List Tok → List ℕ → List Placed
@@ -369,8 +369,7 @@ tautology_tokens = has_toks tautology_text _ refl
 at_most : (n : ℕ) (ms : List Placed) → list_all (λ m. nat_le (nesting m) n) ms ≡ true → AtMost n ms
 at_most n [] h = tt
 at_most n (m ∷ ms) h =
-    let first = and_left (nat_le (nesting m) n) (list_all (λ m. nat_le (nesting m) n) ms) h in
-    let rest = and_right (nat_le (nesting m) n) (list_all (λ m. nat_le (nesting m) n) ms) h in
+    let (first, rest) = and_parts (nat_le (nesting m) n) (list_all (λ m. nat_le (nesting m) n) ms) h in
     (grind (arith, nat_tests), at_most n ms rest)
 
 pub tautology_within_two : TautologyWithinTwo

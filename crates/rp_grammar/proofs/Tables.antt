@@ -8,7 +8,8 @@ use Rattle.rp_grammar.specs.declared.terminal.Word.{Word}
 use Rattle.rp_grammar.specs.declared.terminal.Word.TheVariants as word
 use Rattle.rp_grammar.specs.declared.terminal.Symbol.{Symbol}
 use Rattle.rp_grammar.specs.declared.terminal.Symbol.TheVariants as symbol
-use Rattle.rp_grammar.proofs.Words.{or_cases}
+use Rattle.std.proofs.lemmas.Bool.{or_cases}
+use Rattle.std.proofs.lemmas.Option.{same_Some}
 
 -- a text of the table is the text of something
 one_of_map : {X : Type 0} (text_of : X → List ℕ) (xs : List X) (bytes : List ℕ) → is_one_of (map text_of xs) bytes ≡ true → (x : X) × (bytes ≡ text_of x)
@@ -100,14 +101,11 @@ symbol_of-mark symbol.Plus = refl
 symbol_of-mark symbol.Minus = refl
 symbol_of-mark symbol.Bar = refl
 
-some_same : {X : Type 0} (x y : X) → Some x ≡ Some y → x ≡ y
-some_same x y h = cc
-
 pub spelling_inj : (w v : Word) → spelling w ≡ spelling v → w ≡ v
-spelling_inj w v h = some_same w v (sym (word_of-spelling w) ∙ ap word_of h ∙ word_of-spelling v)
+spelling_inj w v h = same_Some w v (sym (word_of-spelling w) ∙ ap word_of h ∙ word_of-spelling v)
 
 pub mark_inj : (m n : Symbol) → mark m ≡ mark n → m ≡ n
-mark_inj m n h = some_same m n (sym (symbol_of-mark m) ∙ ap symbol_of h ∙ symbol_of-mark n)
+mark_inj m n h = same_Some m n (sym (symbol_of-mark m) ∙ ap symbol_of h ∙ symbol_of-mark n)
 
 spelling_reserved : (w : Word) → is_one_of reserved (spelling w) ≡ true
 spelling_reserved word.IdType = refl

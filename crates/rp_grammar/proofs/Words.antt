@@ -1,51 +1,10 @@
 -- Texts of a table.
 use Rattle.std.proofs.Common.{◌≡◌, ℕ, suc, ◌≤◌, Bool, true, false, ◌&&◌, ◌||◌, cond, eqb, List, [], ◌∷◌, ◌++◌, length, take, refl, sym, ap, subst, ◌∙◌, arith, inl, inr, ◌⊎◌, ⊎_elim, Option, Some, None}
-use Rattle.std.specs.Prelude.{nat_le}
 use Rattle.std.specs.Str.{bytes_eq}
-use Rattle.std.proofs.lemmas.Bool.Decides.{nat_tests, eqb_tells}
+use Rattle.std.proofs.lemmas.Bool.{and_parts, or_cases}
+use Rattle.std.proofs.lemmas.Bool.Decides.{eqb_tells}
 use Rattle.std.proofs.lemmas.Slice.Eq.{bytes_eq-Decides}
 use Rattle.rp_grammar.specs.Bytes.{is_one_of}
-use Rattle.rp_grammar.specs.Scan.{of_length}
-
-pub bool_cases : (t : Bool) → (t ≡ true) ⊎ (t ≡ false)
-bool_cases true = inl refl
-bool_cases false = inr refl
-
-pub or_cases : (x y : Bool) → (x || y) ≡ true → (x ≡ true) ⊎ (y ≡ true)
-or_cases true y h = inl refl
-or_cases false y h = inr h
-
-pub and_left : (x y : Bool) → (x && y) ≡ true → x ≡ true
-and_left true y h = refl
-and_left false y h = cc
-
-pub and_right : (x y : Bool) → (x && y) ≡ true → y ≡ true
-and_right true y h = h
-and_right false y h = cc
-
-pub or_right : (x y : Bool) → y ≡ true → (x || y) ≡ true
-or_right true y h = refl
-or_right false y h = h
-
-or_assoc : (x y z : Bool) → ((x || y) || z) ≡ (x || (y || z))
-or_assoc true y z = refl
-or_assoc false y z = refl
-
-differs : (w text : List ℕ) → (length w ≡ length text → ⊥) → bytes_eq w text ≡ false
-differs w text h = ⊎_elim (λ e. absurd (h (ap length ((bytes_eq-Decides w text).0 e)))) (λ e. e) (bool_cases (bytes_eq w text))
-
-pub one_of_length : (n : ℕ) (ws : List (List ℕ)) (text : List ℕ) → length text ≡ n → is_one_of (of_length n ws) text ≡ is_one_of ws text
-one_of_length n [] text h = refl
-one_of_length n (w ∷ ws) text h =
-    let later = one_of_length n ws text h in
-    ⊎_elim
-    (λ e. rw (e.0) (ap (λ r. bytes_eq w text || r) later))
-    (λ e. rw (e.0) (rw (differs w text (λ i. e.1 (i ∙ h))) later))
-    (eqb_tells (length w) n)
-
-pub one_of_append : (vs ws : List (List ℕ)) (text : List ℕ) → is_one_of (vs ++ ws) text ≡ (is_one_of vs text || is_one_of ws text)
-one_of_append [] ws text = refl
-one_of_append (v ∷ vs) ws text = ap (λ r. bytes_eq v text || r) (one_of_append vs ws text) ∙ sym (or_assoc (bytes_eq v text) (is_one_of vs text) (is_one_of ws text))
 
 abbrev pub all_of : (List ℕ → Bool) → List (List ℕ) → Bool
 all_of q [] = true
@@ -56,8 +15,8 @@ pub one_of_passes : (q : List ℕ → Bool) (ws : List (List ℕ)) (bs : List �
 one_of_passes q [] bs a h = cc
 one_of_passes q (w ∷ ws) bs a h =
     ⊎_elim
-    (λ e. subst (λ x. q x ≡ true) ((bytes_eq-Decides w bs).0 e) (and_left (q w) (all_of q ws) a))
-    (λ e. one_of_passes q ws bs (and_right (q w) (all_of q ws) a) e)
+    (λ e. subst (λ x. q x ≡ true) ((bytes_eq-Decides w bs).0 e) ((and_parts (q w) (all_of q ws) a).0))
+    (λ e. one_of_passes q ws bs ((and_parts (q w) (all_of q ws) a).1) e)
     (or_cases (bytes_eq w bs) (is_one_of ws bs) h)
 
 -- the rests of those texts that begin with b
@@ -138,13 +97,3 @@ longest_none (b ∷ bs) = rw (longest_none bs) refl
 pub longest_empty : (bs : List ℕ) → longest ([] ∷ []) bs ≡ Some 0
 longest_empty [] = refl
 longest_empty (b ∷ bs) = rw (longest_none bs) refl
-
-abbrev pub within_ten : List ℕ → Bool
-within_ten bs = nat_le 2 (length bs) && nat_le (length bs) 10
-
-pub one_of_within : (ws : List (List ℕ)) (bs : List ℕ) → all_of within_ten ws ≡ true → (2 ≤ length bs → length bs ≤ 10 → ⊥) → is_one_of ws bs ≡ false
-one_of_within ws bs a h =
-    ⊎_elim
-    (λ e. let q = one_of_passes within_ten ws bs a e in absurd (h (grind (arith, nat_tests)) (grind (arith, nat_tests))))
-    (λ e. e)
-    (bool_cases (is_one_of ws bs))

@@ -19,4 +19,3 @@ pub use mem_sinks::{MemSink, SureSink};
 pub use os::{OsFiles, OsSink};
 pub use sinks::Sink;
 pub use whole::{ReadErr, read_all};
-

@@ -56,6 +56,7 @@ fn read_piece<F: Files>(
     ensures given { IfOk result (λ n. F.given files.new ≡ raised (F.given files.old) n) }
     ensures given_more { F.given files.old ≤ F.given files.new }
     ensures given_few { F.given files.new ≤ F.given files.old + length piece.old }
+    ensures none_given { IsErrOf result ReadErr.Failed → F.given files.new ≡ F.given files.old }
     ensures prefix { OnOk result (PrefixOfTold (content_of (F.told files.old) name.now) bytes.old.items
         → PrefixOfTold (content_of (F.told files.old) name.now) bytes.new.items) }
     ensures all { IfOk result (λ n. n ≡ 0
@@ -99,6 +100,8 @@ pub fn read_all<F: Files>(
         → F.given files.new ≡ raised (F.given files.old) (limit + 1) }
     ensures given_more { F.given files.old ≤ F.given files.new }
     ensures given_few { F.given files.new ≤ F.given files.old + (limit + 1) }
+    ensures given_failed { IsErrOf result ReadErr.Failed
+        → F.given files.new ≤ F.given files.old + limit }
 
     // A fault is one of the files, and none is passed over.
     ensures failed { IsErrOf result ReadErr.Failed → Rose (F.faults files.old) (F.faults files.new) }

@@ -7,16 +7,7 @@ use Rattle.std.proofs.lemmas.Bool.{cases_Bool, and_parts}
 use Rattle.std.proofs.lemmas.Bool.Decides.{nat_tests, eqb_tells}
 use Rattle.std.proofs.lemmas.Slice.Eq.{bytes_eq-Decides}
 use Rattle.rp_grammar.specs.Bytes.{is_one_of}
-use Rattle.rp_lexer.specs.Named.{named, sized}
-
--- a text is that of the item that it finds
-pub found : {X : Type 0} (text : X → List ℕ) (xs : List X) (bs : List ℕ) (x : X) → named text xs bs ≡ Some x → bs ≡ text x
-found text [] bs x h = cc
-found text (y ∷ ys) bs x h =
-    ⊎_elim
-    (λ e. let same : y ≡ x = cc in sym ((bytes_eq-Decides (text y) bs).0 e) ∙ ap text same)
-    (λ e. let later : named text ys bs ≡ Some x = cc in found text ys bs x later)
-    (cases_Bool (bytes_eq (text y) bs))
+use Rattle.rp_lexer.specs.means.Named.{named, sized}
 
 differs : (w bs : List ℕ) → (length w ≡ length bs → ⊥) → bytes_eq w bs ≡ false
 differs w bs h = ⊎_elim (λ e. absurd (h (ap length ((bytes_eq-Decides w bs).0 e)))) (λ e. e) (cases_Bool (bytes_eq w bs))

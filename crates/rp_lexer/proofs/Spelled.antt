@@ -9,8 +9,9 @@ use Rattle.rp_grammar.specs.Spelling.{spelling, mark, words, marks, word_of, sym
 use Rattle.rp_grammar.specs.declared.terminal.Word.{Word}
 use Rattle.rp_grammar.specs.declared.terminal.Symbol.{Symbol}
 use Rattle.rp_grammar.specs.declared.TokenKind.TheVariants as kind
+use Rattle.rp_grammar.proofs.Computed.{found}
 use Rattle.rp_grammar.proofs.Tables.{word_of-spelling, symbol_of-mark}
-use Rattle.rp_lexer.proofs.Named.{found, is_some-named}
+use Rattle.rp_lexer.proofs.Named.{is_some-named}
 
 pub word_spelled : (bs : List ℕ) (result : Option Word) → result ≡ word_of bs → (w : Word) → (result ≡ Some w) ↔ (bs ≡ spelling w)
 word_spelled bs result h w = (λ e. found spelling words bs w (sym h ∙ e), λ e. h ∙ ap word_of e ∙ word_of-spelling w)

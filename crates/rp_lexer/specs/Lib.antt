@@ -1,2 +1,2 @@
 pub mod Answers
-pub mod Named
+pub mod means

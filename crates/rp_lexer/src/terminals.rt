@@ -3,7 +3,7 @@
 ghost use Rattle.std.specs.Prelude.{◌≡◌, ◌↔◌, IsSome, IsTrue, take, drop};
 ghost use Rattle.rp_grammar.specs.Bytes.{is_one_of, reserved, symbols};
 ghost use Rattle.rp_grammar.specs.Spelling.{spelling, mark, words, marks, word_of, symbol_of};
-ghost use Rattle.rp_lexer.specs.Named.{named, sized};
+ghost use Rattle.rp_lexer.specs.means.Named.{named, sized};
 
 use rp_grammar::{Symbol, Word};
 

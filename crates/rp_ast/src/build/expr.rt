@@ -5,6 +5,7 @@ ghost use Rattle.std.specs.Prelude.{◌≡◌, IfOk};
 ghost use Rattle.rp_grammar.specs.Trees.{ExprTree, ExprForm as ExprShape, AccessTree, ExprArmTree, StepTree};
 ghost use Rattle.rp_ast.specs.View.{ident_view, pattern_view, param_view, expr_view, exprs_view, access_view, steps_view, step_view, args_view, expr_arm_view, expr_arms_view};
 
+use super::both;
 use crate::expr::{AccessNode, AccessStep, ExprArm, ExprForm, ExprNode, PatternNode};
 use crate::ident::Ident;
 use crate::ty::Param;
@@ -22,8 +23,11 @@ pub fn implies(
     ensures { IfOk result (λ x. expr_view x
         ≡ ExprTree.node span (ExprShape.implies (expr_view left) (expr_view right))) }
 {
-    let what = ExprForm::Implies(Boxed::new(alloc, left)?, Boxed::new(alloc, right)?);
-    Ok(ExprNode { span, what })
+    let (left, right) = both(alloc, left, right)?;
+    Ok(ExprNode {
+        span,
+        what: ExprForm::Implies(left, right),
+    })
 }
 
 pub fn or(span: Span, members: List<ExprNode>) -> ExprNode
@@ -61,8 +65,11 @@ pub fn forall(
     ensures { IfOk result (λ x. expr_view x
         ≡ ExprTree.node span (ExprShape.forall (param_view variable) (expr_view body))) }
 {
-    let what = ExprForm::Forall(Boxed::new(alloc, variable)?, Boxed::new(alloc, body)?);
-    Ok(ExprNode { span, what })
+    let (variable, body) = both(alloc, variable, body)?;
+    Ok(ExprNode {
+        span,
+        what: ExprForm::Forall(variable, body),
+    })
 }
 
 pub fn exists(
@@ -74,8 +81,11 @@ pub fn exists(
     ensures { IfOk result (λ x. expr_view x
         ≡ ExprTree.node span (ExprShape.exists (param_view variable) (expr_view body))) }
 {
-    let what = ExprForm::Exists(Boxed::new(alloc, variable)?, Boxed::new(alloc, body)?);
-    Ok(ExprNode { span, what })
+    let (variable, body) = both(alloc, variable, body)?;
+    Ok(ExprNode {
+        span,
+        what: ExprForm::Exists(variable, body),
+    })
 }
 
 pub fn compare(
@@ -88,24 +98,33 @@ pub fn compare(
     ensures { IfOk result (λ x. expr_view x
         ≡ ExprTree.node span (ExprShape.compare op (expr_view left) (expr_view right))) }
 {
-    let what = ExprForm::Compare(op, Boxed::new(alloc, left)?, Boxed::new(alloc, right)?);
-    Ok(ExprNode { span, what })
+    let (left, right) = both(alloc, left, right)?;
+    Ok(ExprNode {
+        span,
+        what: ExprForm::Compare(op, left, right),
+    })
 }
 
 pub fn plus(alloc: Global, span: Span, left: ExprNode, right: ExprNode) -> Result<ExprNode, Memory>
     ensures { IfOk result (λ x. expr_view x
         ≡ ExprTree.node span (ExprShape.plus (expr_view left) (expr_view right))) }
 {
-    let what = ExprForm::Plus(Boxed::new(alloc, left)?, Boxed::new(alloc, right)?);
-    Ok(ExprNode { span, what })
+    let (left, right) = both(alloc, left, right)?;
+    Ok(ExprNode {
+        span,
+        what: ExprForm::Plus(left, right),
+    })
 }
 
 pub fn minus(alloc: Global, span: Span, left: ExprNode, right: ExprNode) -> Result<ExprNode, Memory>
     ensures { IfOk result (λ x. expr_view x
         ≡ ExprTree.node span (ExprShape.minus (expr_view left) (expr_view right))) }
 {
-    let what = ExprForm::Minus(Boxed::new(alloc, left)?, Boxed::new(alloc, right)?);
-    Ok(ExprNode { span, what })
+    let (left, right) = both(alloc, left, right)?;
+    Ok(ExprNode {
+        span,
+        what: ExprForm::Minus(left, right),
+    })
 }
 
 pub fn int(alloc: Global, span: Span, value: i128) -> Result<ExprNode, Memory>

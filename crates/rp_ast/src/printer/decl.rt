@@ -3,9 +3,10 @@
 ghost use Rattle.std.specs.Prelude.{◌≡◌, ◌∷◌, [], ◌++◌, map, OnOk, IfOk};
 ghost use Rattle.rp_grammar.specs.Spelling.{spelling};
 ghost use Rattle.rp_grammar.specs.Terminals as terminal;
+ghost use Rattle.rp_grammar.specs.Trees.{DeclForm as DeclShape};
 ghost use Rattle.rp_grammar.specs.declared.terminal.Symbol.TheVariants as symbol;
-ghost use Rattle.rp_ast.specs.Printed.{followed, line, in_parens, name_terminal, params_terminals, type_terminals, separated, con_terminals, con_fields_terminals, label_terminals, result_type_terminals, query_terminals, proc_terminals, decl_terminals, printed};
-ghost use Rattle.rp_ast.specs.View.{optional, ident_view, params_view, con_view, type_view, query_view, proc_view, decl_view, decls_view, ast_view};
+ghost use Rattle.rp_ast.specs.Printed.{followed, line, in_parens, name_terminal, params_terminals, type_terminals, separated, con_terminals, con_fields_terminals, label_terminals, result_type_terminals, query_terminals, proc_terminals, decl_form_terminals, decl_terminals, printed};
+ghost use Rattle.rp_ast.specs.View.{optional, ident_view, params_view, con_view, type_view, crdt_view, expr_view, query_view, proc_view, decl_view, decls_view, ast_view};
 
 use super::Place;
 use super::crdt::put_crdt;
@@ -13,7 +14,9 @@ use super::expr::put_expr;
 use super::stmt::put_block;
 use super::token::{put_first, put_separator, put_symbol};
 use super::ty::{put_ident, put_param_list, put_params, put_type};
+use crate::crdt::CrdtNode;
 use crate::decl::{Ast, ConNode, Decl, DeclForm, ProcNode, QueryNode};
+use crate::expr::ExprNode;
 use crate::ident::Ident;
 use crate::ty::{Param, TypeNode};
 use rp_grammar::{Symbol, Word};
@@ -145,43 +148,66 @@ fn put_proc(out: &mut Vec<u8>, p: &ProcNode) -> Result<(), Memory>
     put_newline(out)
 }
 
+/// The declaration of a name alone, which begins a line.
+#[tactic(auto, using(crate::proofs::Appends::appends))]
+fn put_named(out: &mut Vec<u8>, w: Word, n: &Ident) -> Result<(), Memory>
+    ensures { OnOk result (out.new.items ≡ out.old.items
+        ++ line (terminal.word w ∷ name_terminal (ident_view n.now)
+        ∷ terminal.symbol symbol.Semicolon ∷ [])) }
+{
+    put_first(out, w)?;
+    put_ident(out, n)?;
+    put_end(out)
+}
+
+#[tactic(auto, using(crate::proofs::Appends::appends))]
+fn put_datatype(out: &mut Vec<u8>, n: &Ident, cons: &[ConNode]) -> Result<(), Memory>
+    ensures { OnOk result (out.new.items ≡ out.old.items
+        ++ line (decl_form_terminals (DeclShape.datatype (ident_view n.now) (map con_view cons.now)))) }
+{
+    put_first(out, Word::Datatype)?;
+    put_ident(out, n)?;
+    put_symbol(out, Symbol::Assign)?;
+    put_cons(out, cons)?;
+    put_end(out)
+}
+
+#[tactic(auto, using(crate::proofs::Appends::appends))]
+fn put_root(out: &mut Vec<u8>, n: &Ident, c: &CrdtNode) -> Result<(), Memory>
+    ensures { OnOk result (out.new.items ≡ out.old.items
+        ++ line (decl_form_terminals (DeclShape.crdt (ident_view n.now) (crdt_view c.now)))) }
+{
+    put_first(out, Word::Crdt)?;
+    put_ident(out, n)?;
+    put_symbol(out, Symbol::Colon)?;
+    put_crdt(out, c)?;
+    put_end(out)
+}
+
+#[tactic(auto, using(crate::proofs::Appends::appends))]
+fn put_invariant(out: &mut Vec<u8>, name: &Option<Ident>, e: &ExprNode) -> Result<(), Memory>
+    ensures { OnOk result (out.new.items ≡ out.old.items
+        ++ line (decl_form_terminals (DeclShape.invariant (optional ident_view name.now)
+        (expr_view e.now)))) }
+{
+    put_first(out, Word::Invariant)?;
+    put_label(out, name)?;
+    put_expr(out, e, Place::Whole)?;
+    put_end(out)
+}
+
 #[tactic(auto, using(crate::proofs::Appends::appends))]
 fn put_decl(out: &mut Vec<u8>, d: &Decl) -> Result<(), Memory>
     ensures { OnOk result (out.new.items ≡ out.old.items
         ++ line (decl_terminals (decl_view d.now))) }
 {
     match &d.what {
-        DeclForm::IdType(n) => {
-            put_first(out, Word::IdType)?;
-            put_ident(out, n)?;
-            put_end(out)
-        }
-        DeclForm::Opaque(n) => {
-            put_first(out, Word::Type)?;
-            put_ident(out, n)?;
-            put_end(out)
-        }
-        DeclForm::Datatype(n, cons) => {
-            put_first(out, Word::Datatype)?;
-            put_ident(out, n)?;
-            put_symbol(out, Symbol::Assign)?;
-            put_cons(out, cons.as_slice())?;
-            put_end(out)
-        }
-        DeclForm::Crdt(n, c) => {
-            put_first(out, Word::Crdt)?;
-            put_ident(out, n)?;
-            put_symbol(out, Symbol::Colon)?;
-            put_crdt(out, c)?;
-            put_end(out)
-        }
+        DeclForm::IdType(n) => put_named(out, Word::IdType, n),
+        DeclForm::Opaque(n) => put_named(out, Word::Type, n),
+        DeclForm::Datatype(n, cons) => put_datatype(out, n, cons.as_slice()),
+        DeclForm::Crdt(n, c) => put_root(out, n, c),
         DeclForm::Query(q) => put_query(out, q),
-        DeclForm::Invariant(name, e) => {
-            put_first(out, Word::Invariant)?;
-            put_label(out, name)?;
-            put_expr(out, e, Place::Whole)?;
-            put_end(out)
-        }
+        DeclForm::Invariant(name, e) => put_invariant(out, name, e),
         DeclForm::Proc(p) => put_proc(out, p),
     }
 }

@@ -4,7 +4,7 @@ ghost use Rattle.std.specs.Prelude.{◌≡◌, ◌∷◌, [], ◌++◌, false, O
 ghost use Rattle.rp_grammar.specs.Spelling.{spelling, mark};
 ghost use Rattle.rp_grammar.specs.Terminals as terminal;
 ghost use Rattle.rp_ast.specs.Printed.{followed, escape, written, separator};
-ghost use Rattle.rp_ast.specs.Words.{is_outer};
+ghost use Rattle.rp_ast.specs.means.Words.{is_outer};
 
 use rp_grammar::{Symbol, Word};
 use rp_value::Memory;

@@ -1,6 +1,6 @@
 use Rattle.std.proofs.Common.{take, drop, ◌∙◌}
 use Rattle.rp_grammar.specs.Spelling.{spelling, words}
-use Rattle.rp_lexer.specs.Named.{sized}
+use Rattle.rp_lexer.specs.means.Named.{sized}
 use Rattle.rp_lexer.proofs.Named.{named_first, named_second}
 use Rattle.rp_lexer.proofs.terminals.word_of_6.Goals as goal
 
