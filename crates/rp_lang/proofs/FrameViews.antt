@@ -10,7 +10,7 @@ use Rattle.rp_lang.specs.declared.frame.Binders.{Binders}
 use Rattle.rp_lang.specs.declared.frame.Binders.TheVariants.{Closed, Quantified, Fields, outs-Closed, outs-Quantified, outs-Fields}
 use Rattle.rp_lang.specs.declared.frame.Binders.TheFolds.{fold_out-Binders, map-Binders}
 use Rattle.rp_lang.specs.declared.frame.Frame.{Frame}
-use Rattle.rp_lang.specs.Frames.{set_step, before_set, fixed_step, before_fixed, binders_step, binders_view, frame_view}
+use Rattle.rp_lang.specs.means.Frames.{set_step, before_set, fixed_step, before_fixed, binders_step, binders_view, frame_view}
 use Rattle.rp_lang.specs.Blocks.{is_slot, behind, in_arm}
 use Rattle.rp_lang.specs.Flow.{sets}
 use Rattle.rp_lang.specs.Typing.{under}

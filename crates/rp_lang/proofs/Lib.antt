@@ -12,3 +12,5 @@ pub mod TypingLemmas
 pub mod UsesViews
 pub mod Weights
 pub mod FirstFormLaws
+pub mod TypeFacts
+pub mod ProgramFacts

@@ -4,7 +4,7 @@ use Rattle.std.specs.Borrow.{Bor}
 use Rattle.rp_lang.specs.declared.bounds.Uses.{Uses}
 use Rattle.rp_lang.specs.declared.bounds.Uses.TheVariants.{Closed, Quantified, Fields, outs-Closed, outs-Quantified, outs-Fields}
 use Rattle.rp_lang.specs.declared.bounds.Uses.TheFolds.{fold_out-Uses, map-Uses}
-use Rattle.rp_lang.specs.UsesView.{uses_step, uses_view}
+use Rattle.rp_lang.specs.means.UsesView.{uses_step, uses_view}
 
 pub uses_view-Closed : uses_view Closed ≡ []
 uses_view-Closed = fold_out-Uses (List ℕ) uses_step Closed ∙ ap (λ l. uses_step (map-Uses Uses (List ℕ) uses_view l)) outs-Closed

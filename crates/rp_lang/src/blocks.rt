@@ -5,8 +5,8 @@ ghost use Rattle.rp_lang.specs.Blocks as spec;
 ghost use Rattle.rp_lang.specs.Typing as typing;
 ghost use Rattle.rp_lang.specs.Types as types;
 ghost use Rattle.rp_lang.specs.declared.stmt.StmtKind.TheViews.{out-StmtArm};
-ghost use Rattle.rp_lang.specs.DraftView.{draft_view};
-ghost use Rattle.rp_lang.specs.Frames.{frame_view};
+ghost use Rattle.rp_lang.specs.means.DraftView.{draft_view};
+ghost use Rattle.rp_lang.specs.means.Frames.{frame_view};
 ghost use Rattle.rp_lang.specs.Views.{expr_view, exprs_view, formula_view, stmt_view, stmts_view, stmt_arms_view};
 
 use crate::bounds::{are_small_exs, is_small_ex, is_small_fo};

@@ -1,7 +1,7 @@
 //! Limits on one expression or formula: depth, nodes, and variables inside one another.
 ghost use Rattle.std.specs.Prelude.{◌≡◌, ◌≤◌, ◌↔◌, ◌+◌, min, unwrap_or, slice_get, IsTrue};
 ghost use Rattle.rp_lang.specs.Bounds as spec;
-ghost use Rattle.rp_lang.specs.UsesView.{uses_view};
+ghost use Rattle.rp_lang.specs.means.UsesView.{uses_view};
 ghost use Rattle.rp_lang.specs.Views.{expr_view, exprs_view, formula_view, formulas_view, arms_view};
 
 use crate::expr::Expr;

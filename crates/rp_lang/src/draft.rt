@@ -1,6 +1,6 @@
 //! A program that isn't tested yet.
 ghost use Rattle.std.specs.Prelude.{◌≡◌, slice_get};
-ghost use Rattle.rp_lang.specs.DraftView.{draft_view};
+ghost use Rattle.rp_lang.specs.means.DraftView.{draft_view};
 ghost use Rattle.rp_lang.specs.Typing as spec;
 
 use crate::inv::InvDecl;

@@ -1,6 +1,6 @@
 //! Where an expression stands: its slots, those that have a value, and its binders.
 ghost use Rattle.std.specs.Prelude.{◌≡◌, ◌<◌, ◌-◌, Some, length, slice_get};
-ghost use Rattle.rp_lang.specs.Frames.{before_set, before_fixed, binders_view, frame_view};
+ghost use Rattle.rp_lang.specs.means.Frames.{before_set, before_fixed, binders_view, frame_view};
 ghost use Rattle.rp_lang.specs.Typing as spec;
 ghost use Rattle.rp_lang.specs.Blocks as blocks;
 ghost use Rattle.rp_lang.specs.Views.{stmt_view};

@@ -13,7 +13,6 @@ mod formula;
 mod frame;
 mod goal;
 mod inv;
-mod laws;
 mod limit;
 mod names;
 mod op;
@@ -23,7 +22,7 @@ mod program;
 mod query;
 mod refusal;
 mod root;
-mod samples;
+pub mod rows;
 mod step;
 mod stmt;
 mod types;
@@ -36,17 +35,13 @@ pub use expr::Expr;
 pub use formula::{Arm, Formula};
 pub use goal::{GoalKind, GoalName};
 pub use inv::InvDecl;
-pub use laws::{
-    assignments, datatypes, different_names, integers, matches, operations, programs_over_sets,
-    quantifiers, returning, slots_have_values, steps_on_paths,
-};
 pub use limit::LimitName;
 pub use op::{OpDecl, OpKind, PathStep};
+pub use paths::{field_in, root_crdt};
 pub use proc::ProcDecl;
 pub use program::Program;
 pub use query::{QueryDecl, QueryKind};
 pub use refusal::Refusal;
 pub use root::Root;
-pub use samples::removes_users;
 pub use step::{Action, Step};
 pub use stmt::{Stmt, StmtArm, StmtKind};

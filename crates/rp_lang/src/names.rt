@@ -1,7 +1,7 @@
 //! Whether names that have to differ do.
 ghost use Rattle.std.specs.Prelude.{◌≡◌, ◌&&◌, not, map};
 ghost use Rattle.std.specs.List.{list_all};
-ghost use Rattle.rp_lang.specs.DraftView.{draft_view};
+ghost use Rattle.rp_lang.specs.means.DraftView.{draft_view};
 ghost use Rattle.rp_lang.specs.FirstForm as form;
 ghost use Rattle.rp_lang.specs.Names as spec;
 ghost use Rattle.rp_lang.specs.Types as types;

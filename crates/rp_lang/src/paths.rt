@@ -97,7 +97,7 @@ fn field_at(fields: &[Field], n: u32) -> Option<&Crdt>
 
 /// The type at the field n of a struct.
 #[tactic(auto, using(crate::proofs::CrdtViews::crdt_views))]
-fn field_in(crdt: &Crdt, n: u32) -> Option<&Crdt>
+pub fn field_in(crdt: &Crdt, n: u32) -> Option<&Crdt>
     ensures { option_map crdt_view (option_copied result) ≡ spec.field_in (crdt_view crdt.now) n }
 {
     match crdt {
@@ -180,7 +180,7 @@ fn own_args<'a>(path: &[PathStep], args: &'a [Ty]) -> Option<&'a [Ty]>
 
 /// The type of a root.
 #[tactic(auto, using(crate::proofs::PathLemmas::root_seen))]
-fn root_crdt(roots: &[Root], root: u32) -> Option<&Crdt>
+pub fn root_crdt(roots: &[Root], root: u32) -> Option<&Crdt>
     ensures { option_map crdt_view (option_copied result) ≡ spec.root_crdt (slice_get (map root_view roots.now) root) }
 {
     match roots.get(root as usize) {

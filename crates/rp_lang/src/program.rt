@@ -137,4 +137,3 @@ pub fn bool_cons(alloc: Global) -> Result<ConTable, Memory>
     })?;
     Ok(ConTable { cons })
 }
-

@@ -1,8 +1,8 @@
 //! Types of expressions, and whether formulas are well typed.
 ghost use Rattle.std.specs.Prelude.{◌≡◌, slice_get};
 ghost use Rattle.std.specs.List.{list_all};
-ghost use Rattle.rp_lang.specs.DraftView.{draft_view};
-ghost use Rattle.rp_lang.specs.Frames.{frame_view, binders_view};
+ghost use Rattle.rp_lang.specs.means.DraftView.{draft_view};
+ghost use Rattle.rp_lang.specs.means.Frames.{frame_view, binders_view};
 ghost use Rattle.rp_lang.specs.Typing as spec;
 ghost use Rattle.rp_lang.specs.Views.{expr_view, exprs_view, formula_view, formulas_view, arms_view};
 

@@ -1,7 +1,7 @@
 //! Whether a program is well formed.
 ghost use Rattle.std.specs.Prelude.{◌≡◌, map};
 ghost use Rattle.std.specs.List.{list_all};
-ghost use Rattle.rp_lang.specs.DraftView.{draft_view};
+ghost use Rattle.rp_lang.specs.means.DraftView.{draft_view};
 ghost use Rattle.rp_lang.specs.Views.{root_view, proc_view};
 ghost use Rattle.rp_lang.specs.WellFormed as spec;
 ghost use Rattle.rp_lang.specs.Paths as paths;

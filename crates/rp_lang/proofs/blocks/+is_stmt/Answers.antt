@@ -1,7 +1,7 @@
 use Rattle.std.proofs.Common.{◌≡◌, true, ◌&&◌, refl, sym, ap, ◌∙◌}
 use Rattle.rp_lang.specs.declared.stmt.StmtKind.TheViews.{out-StmtArm}
-use Rattle.rp_lang.specs.DraftView.{draft_view}
-use Rattle.rp_lang.specs.Frames.{frame_view}
+use Rattle.rp_lang.specs.means.DraftView.{draft_view}
+use Rattle.rp_lang.specs.means.Frames.{frame_view}
 use Rattle.rp_lang.specs.Blocks.{take_fields, are_stmts, in_arm}
 use Rattle.rp_lang.specs.Types.{fields_of}
 use Rattle.rp_lang.specs.Views.{stmts_view}

@@ -1,6 +1,6 @@
 use Rattle.std.proofs.Common.{◌≡◌, ◌+◌, ◌≤◌, min, drop}
 use Rattle.rp_lang.specs.Bounds.{exs_weight}
-use Rattle.rp_lang.specs.UsesView.{uses_view}
+use Rattle.rp_lang.specs.means.UsesView.{uses_view}
 use Rattle.rp_lang.specs.Views.{exprs_view}
 use Rattle.rp_lang.proofs.bounds.+ex_weight.Given as goal
 

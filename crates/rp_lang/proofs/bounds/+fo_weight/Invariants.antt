@@ -1,6 +1,6 @@
 use Rattle.std.proofs.Common.{◌≡◌, ◌+◌, ◌≤◌, min, drop}
 use Rattle.rp_lang.specs.Bounds.{fos_weight, arms_weight}
-use Rattle.rp_lang.specs.UsesView.{uses_view}
+use Rattle.rp_lang.specs.means.UsesView.{uses_view}
 use Rattle.rp_lang.specs.Views.{formulas_view, arms_view}
 use Rattle.rp_lang.proofs.bounds.+fo_weight.Given as goal
 

@@ -1,6 +1,6 @@
 use Rattle.std.proofs.Common.{◌≡◌, drop}
-use Rattle.rp_lang.specs.DraftView.{draft_view}
-use Rattle.rp_lang.specs.Frames.{frame_view, binders_view}
+use Rattle.rp_lang.specs.means.DraftView.{draft_view}
+use Rattle.rp_lang.specs.means.Frames.{frame_view, binders_view}
 use Rattle.rp_lang.specs.Typing.{are_typed, are_typed_arms}
 use Rattle.rp_lang.specs.Views.{formulas_view, arms_view}
 use Rattle.rp_lang.proofs.typing.+is_typed.Given as goal

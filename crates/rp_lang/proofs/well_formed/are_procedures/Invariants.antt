@@ -1,7 +1,7 @@
 use Rattle.std.proofs.Common.{◌≡◌, drop, map}
 use Rattle.std.specs.List.{list_all}
 use Rattle.rp_lang.specs.Views.{proc_view}
-use Rattle.rp_lang.specs.DraftView.{draft_view}
+use Rattle.rp_lang.specs.means.DraftView.{draft_view}
 use Rattle.rp_lang.specs.WellFormed.{is_procedure}
 use Rattle.rp_lang.proofs.well_formed.are_procedures.Given as goal
 

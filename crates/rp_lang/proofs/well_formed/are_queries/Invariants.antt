@@ -2,7 +2,7 @@ use Rattle.std.proofs.Common.{◌≡◌, drop, map}
 use Rattle.std.specs.List.{list_all}
 use Rattle.rp_lang.specs.Paths.{is_query}
 use Rattle.rp_lang.specs.Views.{root_view}
-use Rattle.rp_lang.specs.DraftView.{draft_view}
+use Rattle.rp_lang.specs.means.DraftView.{draft_view}
 use Rattle.rp_lang.specs.WellFormed.{are_queries}
 use Rattle.rp_lang.proofs.well_formed.are_queries.Given as goal
 

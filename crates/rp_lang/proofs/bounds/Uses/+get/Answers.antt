@@ -1,5 +1,5 @@
 use Rattle.std.proofs.Common.{unwrap_or, ap, sym, ◌∙◌}
-use Rattle.rp_lang.specs.UsesView.{uses_view}
+use Rattle.rp_lang.specs.means.UsesView.{uses_view}
 use Rattle.rp_lang.proofs.FrameViews.{get_past}
 use Rattle.rp_lang.proofs.UsesViews.{uses_view-Quantified, uses_view-Fields, among_equal, past_equal}
 use Rattle.rp_lang.proofs.bounds.Uses.+get.Goals as goal

@@ -1,5 +1,5 @@
 use Rattle.std.proofs.Common.{◌≡◌, ◌+◌, ◌-◌, length, slice_get, arith, ap, sym, ◌∙◌}
-use Rattle.rp_lang.specs.Frames.{binders_view}
+use Rattle.rp_lang.specs.means.Frames.{binders_view}
 use Rattle.rp_lang.proofs.FrameViews.{binders_view-Quantified, binders_view-Fields, get_past, under_within, under_past}
 use Rattle.rp_lang.proofs.frame.Binders.+get.Goals as goal
 

@@ -9,10 +9,10 @@ ghost use Rattle.rp_lang.specs.Exprs.{Slot, Bound, Con, Plus, Query, OpOf, OpTer
 ghost use Rattle.rp_lang.specs.Formulas as fo;
 ghost use Rattle.rp_lang.specs.Formulas.{All, Equal, Holds, no_arm, also_arm};
 ghost use Rattle.rp_lang.specs.Stmts.{Put, Decide, New, Operate, If, Match, Atomic, Assert, Return, ReturnWith, no_st_arm, also_st_arm};
-ghost use Rattle.rp_lang.specs.Samples as sample;
-ghost use Rattle.rp_lang.specs.Samples.{one, id, on_set};
+ghost use Rattle.rp_lang.specs.rows.Samples as sample;
+ghost use Rattle.rp_lang.specs.rows.Samples.{one, id, on_set};
 ghost use Rattle.rp_lang.specs.Types.{bool_ty};
-ghost use Rattle.rp_lang.specs.Variants.{here, block, id_expr, procedure, with_result, makes, adds, claims, yes, quantified, negated, with_procs, with_types, data_of, con, with_maps, with_op, with_query};
+ghost use Rattle.rp_lang.specs.rows.Variants.{here, block, id_expr, procedure, with_result, makes, adds, claims, yes, quantified, negated, with_procs, with_types, data_of, con, with_maps, with_op, with_query};
 ghost use Rattle.rp_lang.specs.WellFormed.{is_well_formed};
 
 /// The two programs over sets of ids are well formed.

@@ -14,7 +14,7 @@ use Rattle.rp_lang.specs.Formulas.{Fo, All, Not, Holds}
 use Rattle.rp_lang.specs.Stmts.{St, New, Operate, Sts, no_st, also_st}
 use Rattle.rp_lang.specs.Programs.{Proc, Prog}
 use Rattle.rp_lang.specs.FirstForm.{tx}
-use Rattle.rp_lang.specs.Samples.{span, one, id, over_sets, removes_users}
+use Rattle.rp_lang.specs.rows.Samples.{span, one, id, over_sets, removes_users}
 
 abbrev pub here : Span
 here = span 0 0
