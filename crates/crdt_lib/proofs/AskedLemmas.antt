@@ -2,6 +2,7 @@
 use Rattle.std.proofs.Common.{◌≡◌, ℕ, zero, suc, ◌+◌, ℤ, Bool, true, false, ◌&&◌, if◌then◌else◌, List, [], ◌∷◌, length, refl, ap, sym, ◌∙◌, slice_get, ◌⊎◌, inl, inr, true≢false}
 use Rattle.std.specs.declared.option.Option.{Option}
 use Rattle.std.specs.declared.option.Option.TheVariants.{None, Some}
+use Rattle.std.proofs.lemmas.Bool.{and_parts}
 use Rattle.std.proofs.lemmas.Option.{none-some, same_Some}
 use Rattle.rp_value.specs.Values as val
 use Rattle.rp_value.specs.Values.{Val, no_val, also_val, false_val}
@@ -22,14 +23,11 @@ use Rattle.crdt_lib.specs.Calls.{Call}
 use Rattle.crdt_lib.specs.Counting.{or_this, first_below}
 use Rattle.crdt_lib.specs.Doing.{own_argument, on_root, goes_to_key}
 use Rattle.crdt_lib.specs.Meaning.{among, in_field, at_key, latest}
-use Rattle.crdt_lib.specs.Queries.{question, at_call, answer_at, field_in, held_in, winner_in, ask, answer_by, answer_in}
+use Rattle.rp_lang.specs.Paths.{field_in}
+use Rattle.crdt_lib.specs.Queries.{question, at_call, answer_at, held_in, winner_in, ask, answer_by, answer_in}
 use Rattle.crdt_lib.specs.Truths.{Reading, truth_val, or_false, nth_con, answer_val, asked}
 
 -- # The call that an answer names
-
-pub and-first : (a b : Bool) → (a && b) ≡ true → a ≡ true
-and-first true b h = refl
-and-first false b h = absurd (true≢false (sym h))
 
 pub first-meets : (test : ℕ → Bool) (n c : ℕ) → first_below test n ≡ Some c → test c ≡ true
 first-meets test zero c h = absurd (none-some c h)
@@ -55,7 +53,7 @@ answer-counted ops h depth counted Latest [] c e = go (latest ops h counted) ref
     go None is e = absurd (none-some c e)
     go (Some b) is e =
         let met = first-meets _ (length h) c (is ∙ e) in
-        and-first (counted c) _ (and-first _ _ met)
+        (and_parts (counted c) _ (and_parts _ _ met).0).0
 answer-counted ops h depth counted Total [] c e = absurd (none-some c e)
 answer-counted ops h depth counted AddWins (x ∷ []) c e = absurd (none-some c e)
 answer-counted ops h depth counted RemoveWins (x ∷ []) c e = absurd (none-some c e)
@@ -68,11 +66,11 @@ ask-counted : (ops : List OpDecl) (h : List Call) (kind : QueryKind) (crdt : Opt
 ask-counted ops h kind None path depth counted args c e = absurd (none-some c e)
 ask-counted ops h kind (Some crdt) [] depth counted args c e = answer-counted ops h depth counted (question crdt kind) args c e
 ask-counted ops h kind (Some crdt) (Field n ∷ path) depth counted args c e =
-    and-first (counted c) _ (ask-counted ops h kind (field_in crdt n) path (depth + 1) (in_field ops h depth n counted) args c e)
+    (and_parts (counted c) _ (ask-counted ops h kind (field_in crdt n) path (depth + 1) (in_field ops h depth n counted) args c e)).0
 ask-counted ops h kind (Some crdt) (Key ty ∷ path) depth counted [] c e = absurd (none-some c e)
 ask-counted ops h kind (Some crdt) (Key ty ∷ path) depth counted (k ∷ args) c e =
     let kept = ask-counted ops h kind (held_in crdt) path (depth + 1) (at_key ops h (winner_in crdt) depth k counted) args c e in
-    and-first (counted c) _ (and-first (among h counted (goes_to_key ops depth k) c) _ kept)
+    (and_parts (counted c) _ (and_parts (among h counted (goes_to_key ops depth k) c) _ kept).0).0
 
 pub answer-visible : (p : Prog) (query : ℕ) (h : List Call) (visible : ℕ → Bool) (args : List Val) (c : ℕ)
     → named_call (answer_in p query h visible args) ≡ Some c → visible c ≡ true
@@ -80,7 +78,7 @@ answer-visible p query h visible args c e = go (slice_get p.queries query) e
   where
     go : (o : Option QueryDecl) → named_call (answer_by p o h visible args) ≡ Some c → visible c ≡ true
     go None e = absurd (none-some c e)
-    go (Some q) e = and-first (visible c) _ (ask-counted p.ops h q.kind _ q.path 0 (among h visible (on_root p.ops q.root)) args c e)
+    go (Some q) e = (and_parts (visible c) _ (ask-counted p.ops h q.kind _ q.path 0 (among h visible (on_root p.ops q.root)) args c e)).0
 
 -- # The answer as a value
 

@@ -7,7 +7,7 @@ use Rattle.crdt_lib.specs.Calls.{Call}
 use Rattle.crdt_lib.specs.Counting.{any_below}
 use Rattle.crdt_lib.specs.Histories.{meets, call_is, same_tx}
 use Rattle.crdt_lib.specs.Snapshots.{bit, IsSnapshot}
-use Rattle.crdt_lib.specs.Blocks.{blocks, is_seen, in_block, is_marked, splits, splits_one}
+use Rattle.crdt_lib.specs.means.Blocks.{blocks, is_seen, in_block, is_marked, splits, splits_one}
 use Rattle.crdt_lib.proofs.BelowLemmas.{any_found, none_below}
 use Rattle.crdt_lib.proofs.HistoryLemmas.{no_call_past}
 

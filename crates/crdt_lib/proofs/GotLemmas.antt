@@ -2,13 +2,13 @@
 use Rattle.std.proofs.Common.{◌≡◌, ℕ, zero, suc, ◌+◌, ℤ, Bool, true, false, ◌&&◌, if◌then◌else◌, List, [], ◌∷◌, length, drop, refl, ap, sym, ◌∙◌, subst, arith, slice_get, nat_eq, eqb-true, ◌⊎◌, inl, inr, true≢false}
 use Rattle.std.specs.declared.option.Option.{Option}
 use Rattle.std.specs.declared.option.Option.TheVariants.{None, Some}
+use Rattle.std.proofs.lemmas.Bool.{and_parts}
 use Rattle.std.proofs.lemmas.Option.{none-some, same_Some}
 use Rattle.rp_value.specs.declared.tables.Ty.{Ty}
 use Rattle.rp_value.specs.Values as val
 use Rattle.rp_value.specs.Values.{Val, no_val, also_val}
-use Rattle.rp_lang.specs.Crdts.{Cr, SetAw, SetRw, Reg, MvReg, Counter, MapUw, MapDw, Struct, CrFields, no_field, also_field}
-use Rattle.rp_lang.specs.Paths as paths
-use Rattle.rp_lang.specs.Paths.{held_at, stepped, reached, own_args, root_crdt}
+use Rattle.rp_lang.specs.Crdts.{Cr, SetAw, SetRw, Reg, MvReg, Counter, MapUw, MapDw, Struct}
+use Rattle.rp_lang.specs.Paths.{field_in, held_at, stepped, reached, own_args, root_crdt}
 use Rattle.rp_lang.specs.Types.{same_ty}
 use Rattle.rp_lang.specs.Programs.{Rt, Prog}
 use Rattle.rp_lang.specs.declared.op.OpDecl.{OpDecl}
@@ -27,34 +27,9 @@ use Rattle.crdt_lib.specs.Calls.{Call}
 use Rattle.crdt_lib.specs.Doing.{same_kind, meets_op, op_is, is_of, on_root, is_field, is_some_key, goes_to_field, goes_to_key, own_argument}
 use Rattle.crdt_lib.specs.Histories.{meets, call_is}
 use Rattle.crdt_lib.specs.Meaning.{among, in_field, at_key, is_older, latest, counter_sum}
-use Rattle.crdt_lib.specs.Queries.{question, at_call, answer_at, field_at, field_in, held_in, winner_in, ask, root_type, answer_to, answer_by, answer_in}
+use Rattle.crdt_lib.specs.Queries.{question, at_call, answer_at, held_in, winner_in, ask, answer_to, answer_by, answer_in}
 use Rattle.crdt_lib.specs.Truths.{Reading, or_false, nth_con, found_val, answer_val, asked}
-use Rattle.crdt_lib.proofs.AskedLemmas.{first-meets, and-first}
-
-pub and-both : (a b : Bool) → (a && b) ≡ true → (a ≡ true) × (b ≡ true)
-and-both true b h = (refl, h)
-and-both false b h = absurd (true≢false (sym h))
-
--- # The same steps
-
-same-field : (fields : CrFields) (n : ℕ) → field_at fields n ≡ paths.field_at fields n
-same-field no_field n = refl
-same-field (also_field name crdt rest) zero = refl
-same-field (also_field name crdt rest) (suc n) = same-field rest n
-
-same-step : (crdt : Cr) (n : ℕ) → field_in crdt n ≡ paths.field_in crdt n
-same-step (Struct fields) n = same-field fields n
-same-step (SetAw ty) n = refl
-same-step (SetRw ty) n = refl
-same-step (Reg ty) n = refl
-same-step (MvReg ty) n = refl
-same-step Counter n = refl
-same-step (MapUw keys at_each) n = refl
-same-step (MapDw keys at_each) n = refl
-
-same-root : (o : Option Rt) → root_type o ≡ root_crdt o
-same-root None = refl
-same-root (Some root) = refl
+use Rattle.crdt_lib.proofs.AskedLemmas.{first-meets}
 
 none-reached : (path : List PathStep) (end : Cr) → reached None path ≡ Some end → ⊥
 none-reached path end h = none-some end h
@@ -113,9 +88,9 @@ is-key (Some (Field m)) h = absurd (true≢false (sym h))
 is-key None h = absurd (true≢false (sym h))
 
 along-field : (ops : List OpDecl) (h : List Call) (root : Option Cr) (depth n : ℕ) (crdt : Cr) (counted : ℕ → Bool)
-    → GoesAlong ops h root depth (Some crdt) counted → GoesAlong ops h root (depth + 1) (paths.field_in crdt n) (in_field ops h depth n counted)
+    → GoesAlong ops h root depth (Some crdt) counted → GoesAlong ops h root (depth + 1) (field_in crdt n) (in_field ops h depth n counted)
 along-field ops h root depth n crdt counted along c m =
-    let both = and-both (counted c) _ m in
+    let both = and_parts (counted c) _ m in
     let old = along c both.0 in
     let call = met-call h (goes_to_field ops depth n) c both.1 in
     let op = met-op ops (λ op. is_field n (slice_get op.path depth)) call.0 call.2 in
@@ -127,13 +102,13 @@ along-field ops h root depth n crdt counted along c m =
 along-key : (ops : List OpDecl) (h : List Call) (root : Option Cr) (depth : ℕ) (k : Val) (crdt : Cr) (counted : ℕ → Bool)
     → GoesAlong ops h root depth (Some crdt) counted → GoesAlong ops h root (depth + 1) (held_in crdt) (at_key ops h (winner_in crdt) depth k counted)
 along-key ops h root depth k crdt counted along c m =
-    let both = and-both (counted c) _ (and-first _ _ m) in
+    let both = and_parts (counted c) _ (and_parts _ _ m).0 in
     let old = along c both.0 in
     let call = met-call h (goes_to_key ops depth k) c both.1 in
     let op = met-op ops _ call.0 call.2 in
     let same : call.0 ≡ old.0 = same_Some call.0 old.0 (sym call.1 ∙ old.2) in
     let same_op : op.0 ≡ old.1 = same_Some op.0 old.1 (sym op.1 ∙ (ap (λ (x : Call). slice_get ops x.op) same ∙ old.3)) in
-    let key = is-key (slice_get op.0.path depth) (and-first _ _ op.2) in
+    let key = is-key (slice_get op.0.path depth) (and_parts _ _ op.2).0 in
     let step = drop-at old.1.path depth (Key key.0) (ap (λ (o : OpDecl). slice_get o.path depth) (sym same_op) ∙ key.1) in
     (old.0, old.1, old.2, old.3, λ end e. held-reached key.0 crdt (drop (depth + 1) old.1.path) end (ap (reached (Some crdt)) (sym step) ∙ old.4 end e))
 
@@ -153,7 +128,7 @@ got-sum ops h (Some crdt) [] tys depth counted args r o l =
     let none = no_args args (l ∙ ap length empty) in
     (counter_sum ops h counted, ap (λ c. answer_at ops h depth counted (question c GetSum) args) same ∙ ap (λ a. answer_at ops h depth counted (question Counter GetSum) a) none)
 got-sum ops h (Some crdt) (Field n ∷ path) tys depth counted args r o l =
-    got-sum ops h (field_in crdt n) path tys (depth + 1) (in_field ops h depth n counted) args (ap (λ c. reached c path) (same-step crdt n) ∙ r) o l
+    got-sum ops h (field_in crdt n) path tys (depth + 1) (in_field ops h depth n counted) args r o l
 got-sum ops h (Some crdt) (Key ty ∷ path) [] depth counted args r o l = absurd (none-some [] o)
 got-sum ops h (Some crdt) (Key ty ∷ path) (t ∷ tys) depth counted [] r o l = absurd (omega arith)
 got-sum ops h (Some crdt) (Key ty ∷ path) (t ∷ tys) depth counted (k ∷ args) r o l =
@@ -198,7 +173,7 @@ latest-assign ops h root ty depth counted along = go (latest ops h counted) refl
     go : (o : Option ℕ) → latest ops h counted ≡ o → GotReg ops h root ty counted (Value (at_call o))
     go None e = inl refl
     go (Some c) e =
-        let met = and-both (counted c) _ (and-first _ _ (first-meets _ (length h) c e)) in
+        let met = and_parts (counted c) _ (and_parts _ _ (first-meets _ (length h) c e)).0 in
         let old = along c met.0 in
         let call = met-call h (is_of ops Assign) c met.1 in
         let op = met-op ops (λ op. same_kind op.kind Assign) call.0 call.2 in
@@ -234,13 +209,13 @@ got-reg ops h root ty (Some crdt) [] tys depth counted args r o l along =
     (subst (λ a. GotReg ops h root ty counted (answer_at ops h depth counted (question (Reg ty) GetReg) a)) (sym none)
     (latest-assign ops h root ty depth counted (subst (λ c. GoesAlong ops h root depth (Some c) counted) same along)))
 got-reg ops h root ty (Some crdt) (Field n ∷ path) tys depth counted args r o l along =
-    fewer ops h root ty (in_field ops h depth n counted) counted _ (λ c m. and-first (counted c) _ m)
-    (got-reg ops h root ty (field_in crdt n) path tys (depth + 1) (in_field ops h depth n counted) args (ap (λ c. reached c path) (same-step crdt n) ∙ r) o l
-    (subst (λ c. GoesAlong ops h root (depth + 1) c (in_field ops h depth n counted)) (sym (same-step crdt n)) (along-field ops h root depth n crdt counted along)))
+    fewer ops h root ty (in_field ops h depth n counted) counted _ (λ c m. (and_parts (counted c) _ m).0)
+    (got-reg ops h root ty (field_in crdt n) path tys (depth + 1) (in_field ops h depth n counted) args r o l
+    (along-field ops h root depth n crdt counted along))
 got-reg ops h root ty (Some crdt) (Key t ∷ path) [] depth counted args r o l along = absurd (none-some [] o)
 got-reg ops h root ty (Some crdt) (Key t ∷ path) (u ∷ tys) depth counted [] r o l along = absurd (omega arith)
 got-reg ops h root ty (Some crdt) (Key t ∷ path) (u ∷ tys) depth counted (k ∷ args) r o l along =
-    fewer ops h root ty (at_key ops h (winner_in crdt) depth k counted) counted _ (λ c m. and-first (counted c) _ (and-first (among h counted (goes_to_key ops depth k) c) _ m))
+    fewer ops h root ty (at_key ops h (winner_in crdt) depth k counted) counted _ (λ c m. (and_parts (counted c) _ (and_parts (among h counted (goes_to_key ops depth k) c) _ m).0).0)
     (got-reg ops h root ty (held_in crdt) path tys (depth + 1) (at_key ops h (winner_in crdt) depth k counted) args (held-reached t crdt path (Reg ty) r) (keys (same_ty u t) o) (omega arith)
     (along-key ops h root depth k crdt counted along))
   where
@@ -252,7 +227,7 @@ got-reg ops h root ty (Some crdt) (Key t ∷ path) (u ∷ tys) depth counted (k 
 
 at-root : (ops : List OpDecl) (h : List Call) (n : ℕ) (root : Option Cr) (visible : ℕ → Bool) → GoesAlong ops h root 0 root (among h visible (on_root ops n))
 at-root ops h n root visible c m =
-    let both = and-both (visible c) _ m in
+    let both = and_parts (visible c) _ m in
     let call = met-call h (on_root ops n) c both.1 in
     let op = met-op ops (λ op. nat_eq op.root n) call.0 call.2 in
     (call.0, op.0, call.1, op.1, λ end e. e)
@@ -263,10 +238,10 @@ pub asked-sum : (r : Reading) (n : ℕ) (query : QueryDecl) (args : List Val) �
 asked-sum r n query args is kind leads own counted =
     let p = r.program in
     let h = r.parts.calls in
-    let k = got-sum p.ops h (root_type (slice_get p.roots query.root)) query.path query.args 0 (among h r.visible (on_root p.ops query.root)) args
-    (ap (λ c. reached c query.path) (same-root (slice_get p.roots query.root)) ∙ leads) own counted in
+    let k = got-sum p.ops h (root_crdt (slice_get p.roots query.root)) query.path query.args 0 (among h r.visible (on_root p.ops query.root)) args
+    leads own counted in
     let answer : answer_to p.roots p.ops query h r.visible args ≡ Value (Sum k.0) =
-    ap (λ kind. ask p.ops h kind (root_type (slice_get p.roots query.root)) query.path 0 (among h r.visible (on_root p.ops query.root)) args) kind ∙ k.1 in
+    ap (λ kind. ask p.ops h kind (root_crdt (slice_get p.roots query.root)) query.path 0 (among h r.visible (on_root p.ops query.root)) args) kind ∙ k.1 in
     (k.0, ap (λ o. answer_val p h o (answer_by p o h r.visible args)) is ∙ ap (answer_val p h (Some query)) answer)
 
 -- `none`, or `some` of what an assignment to a register of the type holds
@@ -279,9 +254,9 @@ IsGot r query ty v =
 pub asked-reg : (r : Reading) (n : ℕ) (query : QueryDecl) (ty : Ty) (args : List Val) → slice_get r.program.queries n ≡ Some query → query.kind ≡ GetReg
     → reached (root_crdt (slice_get r.program.roots query.root)) query.path ≡ Some (Reg ty) → own_args query.path query.args ≡ Some [] → length args ≡ length query.args
     → IsGot r query ty (asked r n args)
-asked-reg r n query ty args is kind leads own counted = go (got-reg p.ops h root ty (root_type (slice_get p.roots query.root)) query.path query.args 0 visible args
-    (ap (λ c. reached c query.path) (same-root (slice_get p.roots query.root)) ∙ leads) own counted
-    (subst (λ c. GoesAlong p.ops h root 0 c visible) (sym (same-root (slice_get p.roots query.root))) (at-root p.ops h query.root root r.visible)))
+asked-reg r n query ty args is kind leads own counted = go (got-reg p.ops h root ty (root_crdt (slice_get p.roots query.root)) query.path query.args 0 visible args
+    leads own counted
+    (at-root p.ops h query.root root r.visible))
   where
     p : Prog
     p = r.program
@@ -296,12 +271,12 @@ asked-reg r n query ty args is kind leads own counted = go (got-reg p.ops h root
     visible = among r.parts.calls r.visible (on_root r.program.ops query.root)
 
     answer : Answer
-    answer = ask r.program.ops r.parts.calls GetReg (root_type (slice_get r.program.roots query.root)) query.path 0 visible args
+    answer = ask r.program.ops r.parts.calls GetReg (root_crdt (slice_get r.program.roots query.root)) query.path 0 visible args
 
     value_is : (a : Answer) → answer ≡ a → asked r n args ≡ answer_val p h (Some query) a
     value_is a e =
         ap (λ o. answer_val p h o (answer_by p o h r.visible args)) is
-        ∙ ap (answer_val p h (Some query)) (ap (λ kind. ask p.ops h kind (root_type (slice_get p.roots query.root)) query.path 0 visible args) kind ∙ e)
+        ∙ ap (answer_val p h (Some query)) (ap (λ kind. ask p.ops h kind (root_crdt (slice_get p.roots query.root)) query.path 0 visible args) kind ∙ e)
 
     go : GotReg p.ops h root ty visible answer → IsGot r query ty (asked r n args)
     go (inl none) = inl (value_is (Value Nothing) none)

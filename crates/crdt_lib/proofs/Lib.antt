@@ -10,6 +10,5 @@ pub mod MemberLemmas
 pub mod NewestLemmas
 pub mod PickedLemmas
 pub mod SameLemmas
-pub mod TypeLemmas
 pub mod AskedLemmas
 pub mod GotLemmas

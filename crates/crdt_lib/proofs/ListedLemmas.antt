@@ -1,6 +1,7 @@
 -- Strictly ascending lists.
 use Rattle.std.proofs.Common.{◌≡◌, ℕ, zero, suc, ◌+◌, ◌<◌, ◌≤◌, Bool, true, false, cond, refl, sym, ◌∙◌, ap, subst, arith, List, [], ◌∷◌, length, get_or, inl, inr, nat_eq, Result, Ok, Err, is_ok}
 use Rattle.std.proofs.lemmas.Bool.{or_left, or_right, or_from, eq-eqb, ne_eqb, cases_eq, cases_lt}
+use Rattle.std.proofs.lemmas.List.Folds.{list_any_at}
 use Rattle.std.proofs.lemmas.List.Sorted.{searched}
 use Rattle.std.specs.List.{list_any}
 use Rattle.std.specs.List.Sorted.{IsBinarySearchResult, IsStrictlyIncreasing}
@@ -8,11 +9,6 @@ use Rattle.std.specs.Result.{MatchResult}
 use Rattle.std.specs.Ordering.{nat_cmp}
 use Rattle.std.specs.Cmp.{nat_cmp_total}
 use Rattle.std.specs.FinSet as set
-
-any_at : (p : ℕ → Bool) (xs : List ℕ) (i : ℕ) → i < length xs → p (get_or xs i 0) ≡ true → list_any p xs ≡ true
-any_at p [] i lt e = absurd (omega arith)
-any_at p (x ∷ xs) zero lt e = or_left (p x) _ e
-any_at p (x ∷ xs) (suc i) lt e = or_right (p x) _ (any_at p xs i (omega arith) e)
 
 any_nowhere : (p : ℕ → Bool) (xs : List ℕ) → ((k : ℕ) → k < length xs → p (get_or xs k 0) ≡ false) → list_any p xs ≡ false
 any_nowhere p [] h = refl
@@ -42,7 +38,7 @@ rising xs up i j le lt =
     ]
 
 by_result : (xs : List ℕ) (x : ℕ) (r : Result ℕ ℕ) → MatchResult r (λ i. (i < length xs) × (get_or xs i 0 ≡ x)) (λ i. (i ≤ length xs) × ((k : ℕ) → k < i → get_or xs k 0 < x) × ((k : ℕ) → i ≤ k → k < length xs → x < get_or xs k 0)) → is_ok r ≡ list_any (λ b. nat_eq b x) xs
-by_result xs x (Ok i) h = sym (any_at (λ b. nat_eq b x) xs i h.0 (eq-eqb _ x h.1))
+by_result xs x (Ok i) h = sym (list_any_at (λ b. nat_eq b x) xs i 0 h.0 (eq-eqb _ x h.1))
 by_result xs x (Err i) h =
     sym (any_nowhere (λ b. nat_eq b x) xs (λ k lt. ne_eqb (get_or xs k 0) x (λ e.
     elim (cases_lt k i) [

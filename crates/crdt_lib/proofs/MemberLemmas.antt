@@ -1,29 +1,17 @@
 -- The members of a set below a bound, one number at a time, and what makes the set a consistent snapshot.
 use Rattle.std.proofs.Common.{◌≡◌, ℕ, zero, suc, ◌+◌, ◌-◌, ◌<◌, ◌≤◌, Bool, true, false, cond, ◌||◌, ◌&&◌, not, refl, sym, ◌∙◌, ap, add-one, arith, List, [], ◌∷◌, length, inl, inr, nat_eq, Option, Some, None, slice_get}
 use Rattle.std.specs.List.{list_all, list_any}
-use Rattle.std.proofs.lemmas.Bool.{and_left, and_from, and_parts, or_left, or_right, cases_lt, cases_eq, cases_Bool, true≢false, eqb-true, eq-eqb, ne_eqb}
+use Rattle.std.proofs.lemmas.Bool.{and_left, and_right, and_from, and_parts, or_left, or_right, cases_lt, cases_eq, cases_Bool, true≢false, eqb-true, eq-eqb, ne_eqb}
 use Rattle.std.specs.Ordering.{nat_cmp, eq_by_cmp}
 use Rattle.std.specs.Cmp.{nat_cmp_total, unsigned_tied}
 use Rattle.std.specs.FinSet as set
 use Rattle.crdt_lib.specs.Calls.{Call}
 use Rattle.crdt_lib.specs.Histories.{meets, past_of}
 use Rattle.crdt_lib.specs.Snapshots.{bit, IsSnapshot}
-use Rattle.crdt_lib.specs.Blocks.{splits_one}
-use Rattle.crdt_lib.specs.Members.{caused_at, without, AreCausedBelow}
+use Rattle.crdt_lib.specs.means.Blocks.{splits_one}
+use Rattle.crdt_lib.specs.means.Members.{caused_at, without, AreCausedBelow}
 use Rattle.crdt_lib.proofs.BlockLemmas.{none_split}
 use Rattle.crdt_lib.proofs.HistoryLemmas.{no_call_past}
-
-and_false : (b : Bool) → (b && false) ≡ false
-and_false true = refl
-and_false false = refl
-
-pub not_true : (b : Bool) → (not b ≡ true) → b ≡ false
-not_true false e = refl
-not_true true e = sym e
-
-not_false : (b : Bool) → (not b ≡ false) → b ≡ true
-not_false true e = refl
-not_false false e = sym e
 
 -- what is left has no member below n, and the others as before
 left_below : (s : set.FinSet nat_cmp) (n q : ℕ) → q < n → set.contains (without s n) q ≡ false
@@ -32,7 +20,7 @@ left_below s (suc n) q lt =
     set.contains-remove nat_cmp_total (without s n) n q
     ∙ elim (cases_eq q n) [
       | inl same ↦ and_left _ _ (ap not (unsigned_tied q n ∙ eq-eqb q n same))
-      | inr other ↦ ap (λ b. not (eq_by_cmp nat_cmp q n) && b) (left_below s n q (omega arith)) ∙ and_false (not (eq_by_cmp nat_cmp q n))
+      | inr other ↦ ap (λ b. not (eq_by_cmp nat_cmp q n) && b) (left_below s n q (omega arith)) ∙ and_right (not (eq_by_cmp nat_cmp q n)) false refl
     ]
 
 left_from : (s : set.FinSet nat_cmp) (n q : ℕ) → n ≤ q → set.contains (without s n) q ≡ set.contains s q

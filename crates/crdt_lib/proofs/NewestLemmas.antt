@@ -7,7 +7,7 @@ use Rattle.crdt_lib.specs.Calls.{Call}
 use Rattle.crdt_lib.specs.Counting.{any_below, first_below, or_this}
 use Rattle.crdt_lib.specs.Doing.{is_of}
 use Rattle.crdt_lib.specs.Meaning.{among, stamp_of, latest}
-use Rattle.crdt_lib.specs.Newest.{better}
+use Rattle.crdt_lib.specs.means.Newest.{better}
 use Rattle.crdt_lib.proofs.BelowLemmas.{any_found, none_below}
 
 abbrev pub newest_below : (ℕ → Bool) → (ℕ → ℕ) → ℕ → Option ℕ

@@ -11,7 +11,7 @@ use Rattle.crdt_lib.specs.declared.call.CallRec.{CallRec}
 use Rattle.crdt_lib.specs.Calls.{Call, calls_view}
 use Rattle.crdt_lib.specs.Histories.{before, some_call}
 use Rattle.crdt_lib.specs.Meaning.{among, is_before_one}
-use Rattle.crdt_lib.specs.Picked.{listed}
+use Rattle.crdt_lib.specs.means.Picked.{listed}
 use Rattle.crdt_lib.proofs.BelowLemmas.{any_found, none_below}
 use Rattle.crdt_lib.proofs.HistoryLemmas.{seen_length, no_call_past}
 

@@ -1,7 +1,8 @@
 -- What a query answers, by the type of its root, its path and its kind.
-use Rattle.std.specs.Prelude.{ℕ, zero, suc, ◌+◌, Bool, false, List, [], ◌∷◌, Option, Some, None, slice_get}
+use Rattle.std.specs.Prelude.{ℕ, ◌+◌, Bool, false, List, [], ◌∷◌, Option, Some, None, slice_get}
 use Rattle.rp_value.specs.Values.{Val}
-use Rattle.rp_lang.specs.Crdts.{Cr, SetAw, SetRw, Reg, MvReg, Counter, MapUw, MapDw, Struct, CrFields, no_field, also_field}
+use Rattle.rp_lang.specs.Crdts.{Cr, SetAw, SetRw, Reg, MvReg, Counter, MapUw, MapDw}
+use Rattle.rp_lang.specs.Paths.{field_in, root_crdt}
 use Rattle.rp_lang.specs.Programs.{Rt, Prog}
 use Rattle.rp_lang.specs.declared.op.OpDecl.{OpDecl}
 use Rattle.rp_lang.specs.declared.op.PathStep.{PathStep}
@@ -47,16 +48,6 @@ answer_at ops h depth counted Latest [] = Value (at_call (latest ops h counted))
 answer_at ops h depth counted Total [] = Value (Sum (counter_sum ops h counted))
 answer_at ops h depth counted _ _ = Truth false
 
-abbrev pub field_at : CrFields → ℕ → Option Cr
-field_at no_field n = None
-field_at (also_field name crdt rest) zero = Some crdt
-field_at (also_field name crdt rest) (suc n) = field_at rest n
-
--- the type at a field of a struct
-abbrev pub field_in : Cr → ℕ → Option Cr
-field_in (Struct fields) n = field_at fields n
-field_in _ n = None
-
 -- the type at each key of a map
 abbrev pub held_in : Cr → Option Cr
 held_in (MapUw keys at_each) = Some at_each
@@ -78,14 +69,10 @@ ask ops h kind (Some crdt) (Key ty ∷ path) depth counted [] = Truth false
 ask ops h kind (Some crdt) (Key ty ∷ path) depth counted (k ∷ args) =
     ask ops h kind (held_in crdt) path (depth + 1) (at_key ops h (winner_in crdt) depth k counted) args
 
-abbrev pub root_type : Option Rt → Option Cr
-root_type None = None
-root_type (Some root) = Some root.crdt
-
 -- the answer of a query at the visible calls
 abbrev pub answer_to : List Rt → List OpDecl → QueryDecl → List Call → (ℕ → Bool) → List Val → Answer
 answer_to roots ops query h visible args =
-    ask ops h query.kind (root_type (slice_get roots query.root)) query.path 0 (among h visible (on_root ops query.root)) args
+    ask ops h query.kind (root_crdt (slice_get roots query.root)) query.path 0 (among h visible (on_root ops query.root)) args
 
 abbrev pub answer_by : Prog → Option QueryDecl → List Call → (ℕ → Bool) → List Val → Answer
 answer_by p None h visible args = Truth false

@@ -6,9 +6,9 @@ ghost use Rattle.crdt_lib.specs.Calls.{call_view, calls_view};
 ghost use Rattle.crdt_lib.specs.Histories.{some_call};
 ghost use Rattle.crdt_lib.specs.Snapshots.{bit};
 ghost use Rattle.crdt_lib.specs.Doing as spec;
-ghost use Rattle.crdt_lib.specs.Newest.{better};
+ghost use Rattle.crdt_lib.specs.means.Newest.{better};
 ghost use Rattle.crdt_lib.specs.Meaning.{among, at_key, one_stays, contains_add_wins, contains_remove_wins, contains_value, stamp_of, latest, counter_sum};
-ghost use Rattle.crdt_lib.specs.Picked.{listed};
+ghost use Rattle.crdt_lib.specs.means.Picked.{listed};
 ghost use Rattle.crdt_lib.specs.Queries.{answer_at, at_call};
 
 use crate::asked::{Answer, Found, Question, Winner};

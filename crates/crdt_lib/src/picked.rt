@@ -6,7 +6,7 @@ ghost use Rattle.crdt_lib.specs.Histories.{some_call};
 ghost use Rattle.crdt_lib.specs.Snapshots.{bit};
 ghost use Rattle.crdt_lib.specs.Doing as spec;
 ghost use Rattle.crdt_lib.specs.Meaning.{among, is_before_one, one_stays};
-ghost use Rattle.crdt_lib.specs.Picked.{listed};
+ghost use Rattle.crdt_lib.specs.means.Picked.{listed};
 
 use crate::history::{History, MOST};
 use crate::row::{does_here, is_here};

@@ -1,7 +1,8 @@
 ghost use Rattle.std.specs.Prelude.{◌≡◌, ◌<◌, ◌≤◌, ◌+◌, [], ◌∷◌, Some, None, length, slice_get, map, option_map, option_copied};
 ghost use Rattle.std.specs.FinSet as set;
 ghost use Rattle.rp_value.specs.ValueView.{value_view, values_view};
-ghost use Rattle.rp_lang.specs.Views.{crdt_view, crdt_fields_view, root_view};
+ghost use Rattle.rp_lang.specs.Paths as paths;
+ghost use Rattle.rp_lang.specs.Views.{crdt_view, root_view};
 ghost use Rattle.rp_lang.specs.ProgramView.{program_view};
 ghost use Rattle.crdt_lib.specs.Calls.{calls_view};
 ghost use Rattle.crdt_lib.specs.Snapshots.{bit};
@@ -14,7 +15,7 @@ use crate::asked::{Answer, Found, Question, Winner};
 use crate::history::{History, MOST};
 use crate::row::{enter_field, mark, narrow};
 use crate::view::View;
-use rp_lang::{Crdt, Field, OpDecl, PathStep, Program, QueryDecl, QueryKind, Root};
+use rp_lang::{Crdt, OpDecl, PathStep, Program, QueryDecl, QueryKind, Root, field_in, root_crdt};
 use rp_value::Value;
 
 /// What a kind of query asks of a type.
@@ -52,34 +53,6 @@ fn question(crdt: &Crdt, kind: QueryKind) -> Question
             _ => Question::NoQuestion,
         },
         Crdt::Struct(_) => Question::NoQuestion,
-    }
-}
-
-/// The type of the field n.
-#[tactic(auto, using(crate::proofs::TypeLemmas::field_seen))]
-fn field_at(fields: &[Field], n: u32) -> Option<&Crdt>
-    ensures { option_map crdt_view (option_copied result) ≡ spec.field_at (crdt_fields_view fields.now) n }
-{
-    match fields.get(n as usize) {
-        Some(field) => Some(&field.crdt),
-        None => None,
-    }
-}
-
-/// The type at the field n of a struct.
-#[tactic(auto, using(rp_lang::proofs::CrdtViews::crdt_views))]
-fn field_in(crdt: &Crdt, n: u32) -> Option<&Crdt>
-    ensures { option_map crdt_view (option_copied result) ≡ spec.field_in (crdt_view crdt.now) n }
-{
-    match crdt {
-        Crdt::Struct(fields) => field_at(fields.as_slice(), n),
-        Crdt::SetAw(_) => None,
-        Crdt::SetRw(_) => None,
-        Crdt::Reg(_) => None,
-        Crdt::MvReg(_) => None,
-        Crdt::Counter => None,
-        Crdt::MapUw(_, _) => None,
-        Crdt::MapDw(_, _) => None,
     }
 }
 
@@ -156,17 +129,6 @@ fn ask(
     }
 }
 
-/// The type of a root.
-#[tactic(auto, using(crate::proofs::TypeLemmas::root_seen))]
-fn type_of(roots: &[Root], root: u32) -> Option<&Crdt>
-    ensures { option_map crdt_view (option_copied result) ≡ spec.root_type (slice_get (map root_view roots.now) root) }
-{
-    match roots.get(root as usize) {
-        Some(root) => Some(&root.crdt),
-        None => None,
-    }
-}
-
 fn ask_root(
     h: &History,
     roots: &[Root],
@@ -178,9 +140,9 @@ fn ask_root(
 ) -> Answer
     requires row { length row.old ≡ length h.now }
     requires spare { length spare.old ≡ length h.now }
-    ensures { result ≡ spec.ask ops.now (calls_view h.now) query.now.kind (spec.root_type (slice_get (map root_view roots.now) query.now.root)) query.now.path 0 (bit row.old) (map value_view args.now) }
+    ensures { result ≡ spec.ask ops.now (calls_view h.now) query.now.kind (paths.root_crdt (slice_get (map root_view roots.now) query.now.root)) query.now.path 0 (bit row.old) (map value_view args.now) }
 {
-    match type_of(roots, query.root) {
+    match root_crdt(roots, query.root) {
         Some(crdt) => ask(
             h,
             ops,

@@ -5,8 +5,8 @@ ghost use Rattle.crdt_lib.specs.Calls.{calls_view};
 ghost use Rattle.crdt_lib.specs.Counting.{any_below};
 ghost use Rattle.crdt_lib.specs.Histories.{call_is, past_of};
 ghost use Rattle.crdt_lib.specs.Snapshots.{bit, IsSnapshot};
-ghost use Rattle.crdt_lib.specs.Members.{caused_at, AreCaused};
-ghost use Rattle.crdt_lib.specs.Blocks as spec;
+ghost use Rattle.crdt_lib.specs.means.Members.{caused_at, AreCaused};
+ghost use Rattle.crdt_lib.specs.means.Blocks as spec;
 
 use crate::history::History;
 use crate::view::View;

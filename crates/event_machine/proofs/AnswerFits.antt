@@ -24,7 +24,7 @@ use Rattle.crdt_lib.specs.Calls.{Call}
 use Rattle.crdt_lib.specs.Doing.{is_key, keys_in, own_of, own_argument, on_root}
 use Rattle.crdt_lib.specs.Meaning.{among}
 use Rattle.crdt_lib.specs.Truths.{or_false, asked}
-use Rattle.crdt_lib.proofs.GotLemmas.{and-both, met-call, met-op, IsAssign, IsGot, asked-sum, asked-reg}
+use Rattle.crdt_lib.proofs.GotLemmas.{met-call, met-op, IsAssign, IsGot, asked-sum, asked-reg}
 use Rattle.event_machine.specs.Fitting.{fits, fields_fit, all_fit}
 use Rattle.event_machine.specs.Machine.{Invocation, State, at_invocation}
 use Rattle.event_machine.specs.WellFormed.{At}
@@ -73,7 +73,7 @@ assigned-fits : (p : Prog) (s : State) (root : ℕ) (ty : Ty) (c : ℕ) (visible
     → among s.calls visible (on_root p.ops root) c ≡ true → IsAssign p.ops s.calls (root_crdt (slice_get p.roots root)) ty c
     → fits p ty (or_false (own_argument p.ops (slice_get s.calls c))) ≡ true
 assigned-fits p s root ty c visible f calls m a =
-    let call = met-call s.calls (on_root p.ops root) c (and-both _ _ m).1 in
+    let call = met-call s.calls (on_root p.ops root) c (both_true _ _ m).1 in
     let op = met-op p.ops (λ op. nat_eq op.root root) call.0 call.2 in
     let same : call.0 ≡ a.call = same_Some call.0 a.call (sym call.1 ∙ a.is) in
     let same_op : op.0 ≡ a.op = same_Some op.0 a.op (sym op.1 ∙ (ap (λ (x : Call). slice_get p.ops x.op) same ∙ a.does)) in

@@ -1,4 +1,5 @@
 -- The code of a well-formed program's procedures fits a place outside of atomic blocks.
+pub use Rattle.rp_lang.proofs.TypeFacts.{each}
 use Rattle.std.proofs.Common.{◌≡◌, ◌≢◌, ℕ, zero, suc, Bool, true, false, not, List, [], ◌∷◌, Option, Some, None, slice_get, nat_lt, refl, sym, ◌∙◌, ap, subst, arith, true≢false, ltb-true}
 use Rattle.std.specs.List.{list_all}
 use Rattle.std.proofs.lemmas.Option.{none-some, same_Some}
@@ -60,11 +61,6 @@ mutual
   arms-fit p frame (also_st_arm con slots body rest) next h f =
       let both = both_true _ _ h in
       (codes-fit p (in_arm slots frame) body next (both_true _ _ both.0).1 f, arms-fit p frame rest next both.1 f)
-
-pub each : {A : Type 0} (test : A → Bool) (xs : List A) (n : ℕ) (x : A) → list_all test xs ≡ true → At xs n x → test x ≡ true
-each test [] n x h at = absurd (none-some x at)
-each test (y ∷ others) zero x h at = ap test (sym (same_Some y x at)) ∙ (both_true _ _ h).0
-each test (y ∷ others) (suc n) x h at = each test others n x (both_true _ _ h).1 at
 
 pub procs-fit : (p : Prog) → is_well_formed p ≡ true → ProcsFit p
 procs-fit p h n q at =

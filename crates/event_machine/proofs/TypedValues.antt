@@ -1,4 +1,5 @@
 -- The value of a well typed expression fits its type.
+pub use Rattle.rp_lang.proofs.TypeFacts.{is_data, ordinary-data, same-number, same-type, is-type, FieldsAreData}
 use Rattle.std.proofs.Common.{◌≡◌, ◌==◌, ℕ, ℤ, Bool, true, false, ◌&&◌, if◌then◌else◌, List, [], ◌∷◌, length, Option, Some, None, slice_get, nat_eq, refl, sym, ◌∙◌, ap, subst, arith, eq-eqb, true≢false}
 use Rattle.std.specs.List.{list_all}
 use Rattle.std.proofs.lemmas.Option.{none-some, same_Some}
@@ -22,40 +23,6 @@ use Rattle.event_machine.proofs.FormLemmas.{both_true}
 use Rattle.event_machine.proofs.MoveLemmas.{and-make}
 use Rattle.event_machine.proofs.WiderLemmas.{given-some, is_ty-some}
 
--- # Types of data
-
-abbrev pub is_data : Ty → Bool
-is_data ty.Int = true
-is_data ty.Str = true
-is_data (Atom n) = true
-is_data (Datatype n) = true
-is_data _ = false
-
-pub ordinary-data : (types : TypeTable) (t : Ty) → is_ordinary types t ≡ true → is_data t ≡ true
-ordinary-data types ty.Int h = refl
-ordinary-data types ty.Str h = refl
-ordinary-data types (Atom n) h = refl
-ordinary-data types (Datatype n) h = refl
-ordinary-data types _ h = absurd (true≢false (sym h))
-
-pub same-number : (n m : ℕ) → (n == m) ≡ true → n ≡ m
-same-number n m h = grind arith
-
-pub same-type : (t u : Ty) → same_ty t u ≡ true → t ≡ u
-same-type ty.Int ty.Int h = refl
-same-type ty.Str ty.Str h = refl
-same-type (Atom a) (Atom b) h = ap Atom (same-number a b h)
-same-type (Datatype a) (Datatype b) h = ap Datatype (same-number a b h)
-same-type ty.Call ty.Call h = refl
-same-type ty.Inv ty.Inv h = refl
-same-type ty.Operation ty.Operation h = refl
-same-type ty.Info ty.Info h = refl
-same-type ty.Outcome ty.Outcome h = refl
-same-type _ _ h = absurd (true≢false (sym h))
-
-pub is-type : (o : Option Ty) (t : Ty) → is_ty o t ≡ true → o ≡ Some t
-is-type o t h = let k = is_ty-some o t h in k.1 ∙ ap (λ t. Some t) (same-type k.0 t k.2)
-
 -- # Expressions
 
 -- what is asked of the store fits
@@ -63,9 +30,6 @@ abbrev pub AskedFits : Prog → State → Invocation → Type 0
 AskedFits p s inv =
     (query : ℕ) (args : List Val) (t : Ty) → value_asked (slice_get p.queries query) ≡ Some t → length args ≡ length (query_args (slice_get p.queries query))
     → fits p t (asked (at_invocation p s inv) query args) ≡ true
-
-abbrev pub FieldsAreData : Prog → Type 0
-FieldsAreData p = (con : ℕ) → list_all is_data (types.fields_of p.cons con) ≡ true
 
 pub record Holds (p : Prog) (s : State) (inv : Invocation) (q : Proc) (set : ℕ → Bool) : Type 0 where
   pub fields : FieldsAreData p

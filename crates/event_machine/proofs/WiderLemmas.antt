@@ -1,4 +1,5 @@
 -- What is typed where some slots are set is typed where more are.
+pub use Rattle.rp_lang.proofs.TypeFacts.{given-some, is_ty-some}
 use Rattle.std.proofs.Common.{◌≡◌, ℕ, Bool, true, false, ◌&&◌, ◌||◌, if◌then◌else◌, List, [], ◌∷◌, Option, Some, None, slice_get, refl, sym, ◌∙◌, ap, inl, inr, true≢false}
 use Rattle.std.proofs.lemmas.Option.{none-some}
 use Rattle.rp_value.specs.declared.tables.Ty.{Ty}
@@ -21,17 +22,9 @@ pub record Wider (f g : Frame) : Type 0 where
   pub speaks : f.speaks ≡ g.speaks
   pub set : (s : ℕ) → f.set s ≡ true → g.set s ≡ true
 
-pub given-some : (b : Bool) (o : Option Ty) (t : Ty) → given b o ≡ Some t → (b ≡ true) × (o ≡ Some t)
-given-some true o t h = (refl, h)
-given-some false o t h = absurd (none-some t h)
-
 pub some-given : (b : Bool) (o : Option Ty) (t : Ty) → b ≡ true → o ≡ Some t → given b o ≡ Some t
 some-given true o t h k = k
 some-given false o t h k = absurd (true≢false (sym h))
-
-pub is_ty-some : (o : Option Ty) (t : Ty) → is_ty o t ≡ true → (u : Ty) × (o ≡ Some u) × (same_ty u t ≡ true)
-is_ty-some None t h = absurd (true≢false (sym h))
-is_ty-some (Some u) t h = (u, refl, h)
 
 some-is_ty : (o : Option Ty) (u t : Ty) → o ≡ Some u → same_ty u t ≡ true → is_ty o t ≡ true
 some-is_ty o u t e h = ap (λ o. is_ty o t) e ∙ h

@@ -1,7 +1,7 @@
 // What the machine does on a program over two sets. Each function is a law: its clauses compute.
 ghost use Rattle.std.specs.Prelude.{◌≡◌, pos, [], ◌∷◌, ◌++◌};
 ghost use Rattle.rp_value.specs.Values.{Int, Atom, Con, no_val};
-ghost use Rattle.rp_lang.specs.Samples.{removes_users};
+ghost use Rattle.rp_lang.specs.rows.Samples.{removes_users};
 ghost use Rattle.event_machine.specs.States.{Invoke, Begin, Op, Local, New, Commit, Return, Check};
 ghost use Rattle.event_machine.specs.States.{ToBegin, ToOp, ToLocal, ToNew, ToCommit, ToReturn, Invariant};
 ghost use Rattle.event_machine.specs.States.{NotRunning, WrongPoint, BadArgs, UnknownId, NotCommitted, NotClosed, StampUsed, StampLow, NotFresh, OutOfUniverse};

@@ -4,11 +4,8 @@ pub mod FirstFormLemmas
 pub mod FormulaViews
 pub mod ProgramLemmas
 pub mod StmtViews
-pub mod TypeLemmas
 pub mod PathLemmas
 pub mod ProcViews
-pub mod FrameViews
-pub mod TypingLemmas
-pub mod UsesViews
-pub mod Weights
 pub mod FirstFormLaws
+pub mod TypeFacts
+pub mod ProgramFacts

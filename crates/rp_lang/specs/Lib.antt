@@ -15,9 +15,6 @@ pub mod Bounds
 pub mod Flow
 pub mod Blocks
 pub mod WellFormed
-pub mod Samples
-pub mod DraftView
-pub mod Frames
-pub mod UsesView
-pub mod Variants
 pub mod Names
+pub mod means
+pub mod rows

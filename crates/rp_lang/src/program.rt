@@ -3,14 +3,12 @@ ghost use Rattle.rp_lang.specs.FirstForm as spec;
 ghost use Rattle.rp_lang.specs.Views.{parts_view, proc_view};
 ghost use Rattle.rp_lang.specs.WellFormed.{is_well_formed};
 
-use crate::draft::Draft;
 use crate::first_form::are_over_truth_values;
 use crate::inv::InvDecl;
 use crate::op::{OpDecl, OpKind};
 use crate::proc::ProcDecl;
 use crate::query::QueryDecl;
 use crate::root::Root;
-use crate::well_formed::is_well_formed;
 use rp_value::{AtomType, ConDecl, ConTable, DataDecl, List, Memory, TypeTable, copy_bytes};
 use std::alloc::Global;
 
@@ -29,42 +27,6 @@ pub struct Program {
 
 impl Program {
     ghost use Rattle.rp_lang.specs.ProgramView.{program_view};
-
-    /// The program with these parts, where they are those of a well-formed one. It takes no memory.
-    pub fn new(
-        types: TypeTable,
-        cons: ConTable,
-        roots: List<Root>,
-        ops: List<OpDecl>,
-        queries: List<QueryDecl>,
-        invs: List<InvDecl>,
-        procs: List<ProcDecl>,
-    ) -> Option<Program>
-        ensures some { IsSome result ↔ IsTrue (is_well_formed (parts_view types cons roots ops queries invs procs)) }
-        ensures program { IfSome result (λ p. program_view p ≡ parts_view types cons roots ops queries invs procs) }
-    {
-        let draft = Draft {
-            types,
-            cons,
-            roots,
-            ops,
-            queries,
-            invs,
-            procs,
-        };
-        if !is_well_formed(&draft) {
-            return None;
-        }
-        Some(Program {
-            types: draft.types,
-            cons: draft.cons,
-            roots: draft.roots,
-            ops: draft.ops,
-            queries: draft.queries,
-            invs: draft.invs,
-            procs: draft.procs,
-        })
-    }
 
     /// The program of these procedures, where they are over truth values: procedures of `Bool` parameters that branch
     /// and assert, and no data.
@@ -137,4 +99,3 @@ pub fn bool_cons(alloc: Global) -> Result<ConTable, Memory>
     })?;
     Ok(ConTable { cons })
 }
-

@@ -5,7 +5,7 @@ use Rattle.crdt_lib.specs.Counting.{any_below}
 use Rattle.crdt_lib.specs.Snapshots.{bit}
 use Rattle.crdt_lib.specs.Doing as spec
 use Rattle.crdt_lib.specs.Meaning.{among, is_before_one}
-use Rattle.crdt_lib.specs.Picked.{listed}
+use Rattle.crdt_lib.specs.means.Picked.{listed}
 use Rattle.crdt_lib.proofs.picked.any_stays.Given as goal
 
 abbrev pub invariant-loop-c : goal.invariant-loop-c

@@ -1,7 +1,7 @@
 use Rattle.std.proofs.Common.{◌≡◌, arith, true, false}
 use Rattle.std.specs.FinSet as set
 use Rattle.crdt_lib.specs.Calls.{calls_view}
-use Rattle.crdt_lib.specs.Members.{caused_at}
+use Rattle.crdt_lib.specs.means.Members.{caused_at}
 use Rattle.crdt_lib.proofs.MemberLemmas.{step_yes, step_no}
 use Rattle.crdt_lib.proofs.snapshot.caused_members.Goals as goal
 use Rattle.crdt_lib.proofs.snapshot.caused_members.Goals.{then-has+else-not-is_caused, else-has}

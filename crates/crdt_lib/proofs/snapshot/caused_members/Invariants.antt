@@ -1,6 +1,6 @@
 use Rattle.std.proofs.Common.{◌≤◌}
 use Rattle.crdt_lib.specs.Calls.{calls_view}
-use Rattle.crdt_lib.specs.Members.{AreCausedBelow}
+use Rattle.crdt_lib.specs.means.Members.{AreCausedBelow}
 use Rattle.crdt_lib.proofs.snapshot.caused_members.Given as goal
 
 abbrev pub invariant-loop-c : goal.invariant-loop-c

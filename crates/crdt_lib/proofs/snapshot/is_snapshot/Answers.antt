@@ -1,12 +1,12 @@
 use Rattle.std.proofs.Common.{sym, ◌∙◌}
-use Rattle.std.proofs.lemmas.Bool.{eqb-true, eq-eqb, true≢false, not_from_false}
+use Rattle.std.proofs.lemmas.Bool.{eqb-true, eq-eqb, not-true, true≢false, not_from_false}
 use Rattle.crdt_lib.proofs.BlockLemmas.{no_splits}
-use Rattle.crdt_lib.proofs.MemberLemmas.{not_true, snapshot_counted, counted_snapshot, no_snapshot}
+use Rattle.crdt_lib.proofs.MemberLemmas.{snapshot_counted, counted_snapshot, no_snapshot}
 use Rattle.crdt_lib.proofs.snapshot.is_snapshot.Goals as goal
 
 pub returns-then-members-size : goal.returns-then-members-size
 returns-then-members-size g c = (
-  λ t. snapshot_counted _ _ _ _ c.in-Some.ensures (c.if-members-size.true ∙ c.size.ensures) (sym c.splits_one.ensures ∙ not_true c.splits_one.result t),
+  λ t. snapshot_counted _ _ _ _ c.in-Some.ensures (c.if-members-size.true ∙ c.size.ensures) (sym c.splits_one.ensures ∙ not-true c.splits_one.result t),
   λ snap. not_from_false c.splits_one.result (c.splits_one.ensures ∙ no_splits _ _ _ snap _),
 )
 

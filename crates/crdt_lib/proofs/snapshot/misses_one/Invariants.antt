@@ -3,7 +3,7 @@ use Rattle.std.specs.FinSet as set
 use Rattle.crdt_lib.specs.Calls.{calls_view}
 use Rattle.crdt_lib.specs.Histories.{call_is}
 use Rattle.crdt_lib.specs.Counting.{any_below}
-use Rattle.crdt_lib.specs.Blocks.{is_marked}
+use Rattle.crdt_lib.specs.means.Blocks.{is_marked}
 use Rattle.crdt_lib.proofs.snapshot.misses_one.Given as goal
 
 abbrev pub invariant-loop-d : goal.invariant-loop-d

@@ -2,7 +2,7 @@ use Rattle.std.proofs.Common.{◌≡◌, false}
 use Rattle.std.specs.FinSet as set
 use Rattle.crdt_lib.specs.Calls.{calls_view}
 use Rattle.crdt_lib.specs.Counting.{any_below}
-use Rattle.crdt_lib.specs.Blocks.{splits}
+use Rattle.crdt_lib.specs.means.Blocks.{splits}
 use Rattle.crdt_lib.proofs.snapshot.splits_one.Given as goal
 
 abbrev pub invariant-loop-block : goal.invariant-loop-block

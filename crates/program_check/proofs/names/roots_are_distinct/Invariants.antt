@@ -1,0 +1,11 @@
+use Rattle.std.proofs.Common.{◌≡◌, length, map}
+use Rattle.rp_lang.specs.FirstForm as form
+use Rattle.rp_lang.specs.Names as spec
+use Rattle.rp_lang.specs.Views.{root_view}
+use Rattle.program_check.proofs.names.roots_are_distinct.Given as goal
+
+abbrev pub invariant-loop-left : goal.invariant-loop-left
+invariant-loop-left l = form.are_distinct (spec.root_names (map root_view l.roots)) ≡ form.are_distinct (spec.root_names (map root_view l.left))
+
+abbrev pub decreases-loop-left : goal.decreases-loop-left
+decreases-loop-left l = length l.left

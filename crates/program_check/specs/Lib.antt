@@ -1,0 +1,3 @@
+pub mod DraftView
+pub mod Frames
+pub mod UsesView

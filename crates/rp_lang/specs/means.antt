@@ -1,0 +1,1 @@
+-- What only proofs and private contracts cite. No public clause rests on these.
