@@ -10,7 +10,7 @@ ghost use Rattle.rp_grammar.specs.Trees.{DeclTree};
 ghost use Rattle.rp_grammar.specs.Texts.{IsTextWithin};
 ghost use Rattle.rp_ast.specs.View.{ast_view};
 ghost use Rattle.rp_types.specs.FirstProgram.{IsProgramOf};
-ghost use Rattle.repliss_cli.specs.Lines.{line_for};
+ghost use Rattle.repliss_cli.specs.means.Lines.{line_for};
 
 use crate::report::{GoalLine, Report};
 use event_machine::false_by_trying;

@@ -7,7 +7,7 @@ use Rattle.rp_lang.specs.Exprs.{Slot}
 use Rattle.rp_lang.specs.Formulas as fo
 use Rattle.rp_lang.specs.Formulas.{Fo, Fos, no_fo, also_fo}
 use Rattle.rp_types.specs.FirstForm.{is_first_expr, are_first_exprs}
-use Rattle.rp_types.specs.Found.{access_for, formula_for, form_for, formulas_for, slot_from}
+use Rattle.rp_types.specs.means.Found.{access_for, formula_for, form_for, formulas_for, slot_from}
 use Rattle.rp_types.specs.Resolution.{Name, AreDistinct, FormulaOf, FormulasOf}
 use Rattle.rp_types.proofs.Parts.{both_true, BothThere, both_there, both_are, MapThere, map_there}
 use Rattle.rp_types.proofs.NameLemmas.{slot_named, slot_found}

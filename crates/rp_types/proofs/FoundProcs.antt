@@ -11,7 +11,7 @@ use Rattle.rp_lang.specs.FirstForm.{are_distinct}
 use Rattle.rp_lang.specs.Programs.{Proc}
 use Rattle.rp_lang.specs.Stmts.{Sts}
 use Rattle.rp_types.specs.FirstForm.{is_bool, is_first_block, is_first_proc, is_first_decl}
-use Rattle.rp_types.specs.Found.{scope_of, is_named, is_proc_named, names_a_proc, are_apart, has_first_head, block_for, proc_with, proc_for, decl_for, procs_for}
+use Rattle.rp_types.specs.means.Found.{scope_of, is_named, is_proc_named, names_a_proc, are_apart, has_first_head, block_for, proc_with, proc_for, decl_for, procs_for}
 use Rattle.rp_types.specs.Resolution.{Name, AreDistinct, AreApart, ParamsOf, TypeOf, BlockOf, IsProcOf, ProcsOf, names}
 use Rattle.rp_types.proofs.Parts.{both_true, both_parts, BothThere, both_there, both_are, MapThere, map_there, guarded_there, guarded_is}
 use Rattle.rp_types.proofs.NameLemmas.{distinct_names, distinct_test, apart_names, apart_test}

@@ -6,7 +6,7 @@ use Rattle.rp_lang.specs.FirstForm.{are_over_truth_values, over_truth_values, is
 use Rattle.rp_lang.specs.Programs.{Proc, Prog}
 use Rattle.rp_lang.proofs.ProgramLemmas.{few_procs}
 use Rattle.rp_types.specs.FirstProgram.{IsProgramOf}
-use Rattle.rp_types.specs.Found.{is_named, names_a_proc, procs_for, procs_of}
+use Rattle.rp_types.specs.means.Found.{is_named, names_a_proc, procs_for, procs_of}
 use Rattle.rp_types.specs.Resolution.{Name, names}
 use Rattle.rp_types.proofs.Parts.{both_parts, guarded_there, guarded_is}
 use Rattle.rp_types.proofs.NameLemmas.{distinct_names}

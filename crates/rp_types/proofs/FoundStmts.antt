@@ -6,7 +6,7 @@ use Rattle.rp_grammar.specs.Trees.{BlockTree, StmtTree, StmtForm, StmtTrees, Els
 use Rattle.rp_lang.specs.Stmts as st
 use Rattle.rp_lang.specs.Stmts.{St, Sts, no_st, also_st}
 use Rattle.rp_types.specs.FirstForm.{is_first_stmt, is_first_block, are_first_stmts, is_first_else}
-use Rattle.rp_types.specs.Found.{formula_for, stmt_for, stmt_form_for, block_for, stmts_for, else_for}
+use Rattle.rp_types.specs.means.Found.{formula_for, stmt_for, stmt_form_for, block_for, stmts_for, else_for}
 use Rattle.rp_types.specs.Resolution.{Name, AreDistinct, StmtOf, BlockOf, StmtsOf, ElseOf}
 use Rattle.rp_types.proofs.Parts.{both_true, BothThere, both_there, both_are, MapThere, map_there, BranchThere, branch_there, branch_is}
 use Rattle.rp_types.proofs.FoundFormulas.{formula_first, formula_sound, formula_found}

@@ -4,7 +4,7 @@ use Rattle.std.specs.Option.{option_map}
 use Rattle.rp_lang.specs.Formulas.{Fo}
 use Rattle.rp_lang.specs.Stmts.{St, Sts, If}
 use Rattle.rp_span.specs.declared.Span.{Span}
-use Rattle.rp_types.specs.Found.{both, guarded, branch}
+use Rattle.rp_types.specs.means.Found.{both, guarded, branch}
 
 pub both_true : (a b : Bool) → IsTrue a → IsTrue b → IsTrue (a && b)
 both_true true b p q = q
