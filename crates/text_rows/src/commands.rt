@@ -32,7 +32,11 @@ fn file_of(alloc: Global, row: &Row, text: &[u8]) -> Result<MemFiles, Memory> {
 }
 
 fn sink_of(alloc: Global, row: &Row) -> Result<MemSink, Memory> {
-    MemSink::with_room(alloc, row.number("room").unwrap_or(ROOM), row.numbers(alloc, "unwritten")?)
+    MemSink::with_room(
+        alloc,
+        row.number("room").unwrap_or(ROOM),
+        row.numbers(alloc, "unwritten")?,
+    )
 }
 
 /// Whether the command ends with the status and puts the lines that the row wants, if it wants any.

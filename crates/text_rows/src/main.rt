@@ -18,11 +18,13 @@ const ROWS: &str = "cases";
 /// Whether what is told of the row's text is what it wants. A row that wants nothing isn't met.
 fn is_met(alloc: Global, row: &Row) -> Result<bool, Memory> {
     let text = row.text(alloc)?;
-    Ok(row.wants_something()
-        && told::has_tokens(alloc, row, &text)?
-        && told::has_names(row, &text)
-        && told::has_tree(alloc, row, &text)?
-        && commands::has_report(alloc, row, &text)?)
+    Ok(
+        row.wants_something()
+            && told::has_tokens(alloc, row, &text)?
+            && told::has_names(row, &text)
+            && told::has_tree(alloc, row, &text)?
+            && commands::has_report(alloc, row, &text)?,
+    )
 }
 
 fn main(rt: HostRuntime) -> io::Result<()> {

@@ -34,9 +34,13 @@ fn add_part(text: &mut Vec<u8>, line: &str) -> Result<bool, Memory> {
     } else if let Some(piece) = behind(line, "line") {
         text.extend_from_slice(piece.as_bytes())?;
         text.push(b'\n')?;
-    } else if let Some((times, piece)) = behind(line, "times").and_then(|said| said.split_once(' ')) {
+    } else if let Some((times, piece)) = behind(line, "times").and_then(|said| said.split_once(
+        ' ',
+    )) {
         add_times(text, piece.as_bytes(), number(times))?;
-    } else if let Some((times, byte)) = behind(line, "bytes").and_then(|said| said.split_once(' ')) {
+    } else if let Some((times, byte)) = behind(line, "bytes").and_then(|said| said.split_once(
+        ' ',
+    )) {
         add_times(text, &[number(byte) as u8], number(times))?;
     } else {
         return Ok(false);
