@@ -41,7 +41,7 @@ fn add_part(text: &mut Vec<u8>, line: &str) -> Result<bool, Memory> {
     } else if let Some((times, byte)) = behind(line, "bytes").and_then(|said| said.split_once(
         ' ',
     )) {
-        add_times(text, &[number(byte) as u8], number(times))?;
+        add_times(text, &[byte.parse::<u8>().unwrap_or(0)], number(times))?;
     } else {
         return Ok(false);
     }
