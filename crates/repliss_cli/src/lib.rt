@@ -3,6 +3,7 @@
 
 mod judge;
 pub mod laws;
+mod places;
 mod report;
 mod top;
 
