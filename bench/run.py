@@ -8,7 +8,7 @@ import tempfile
 import time
 
 TOP = os.path.dirname(os.path.dirname(os.path.abspath(__file__)))
-PROGRAM = os.path.join(TOP, "crates", "repliss_cli", "out", "repliss_cli")
+PROGRAM = os.path.join(TOP, "crates", "repliss", "out", "repliss")
 LIMIT = 262_144
 
 

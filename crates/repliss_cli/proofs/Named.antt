@@ -10,7 +10,7 @@ use Rattle.rp_verify.specs.declared.verdict.Unproved.{Unproved}
 use Rattle.repliss_cli.specs.declared.report.GoalLine.{GoalLine}
 use Rattle.repliss_cli.specs.FirstText.{IsFirstText}
 use Rattle.repliss_cli.specs.Answers.{NameFalse, no_goal, false_goal, other_goal, IsUnproved}
-use Rattle.repliss_cli.specs.Lines.{line_for}
+use Rattle.repliss_cli.specs.means.Lines.{line_for}
 
 -- a test of each goal tells whether it is false
 abbrev pub Tells : Type 0

@@ -4,7 +4,7 @@ use Rattle.rp_grammar.specs.Trees.{DeclTree}
 use Rattle.rp_lang.specs.FirstForm.{over_truth_values, are_over_truth_values}
 use Rattle.rp_lang.specs.Programs.{Proc, Prog}
 use Rattle.rp_types.specs.FirstProgram.{IsProgramOf}
-use Rattle.rp_types.specs.Found.{procs_of}
+use Rattle.rp_types.specs.means.Found.{procs_of}
 use Rattle.rp_types.proofs.FoundProgram.{program_found, none_without_procs, none_over_others, only_program}
 use Rattle.repliss_cli.specs.declared.report.Report.{Report}
 use Rattle.repliss_cli.specs.Answers.{IsReportOf}

@@ -15,7 +15,7 @@ use Rattle.repliss_cli.specs.declared.report.Report.{Report}
 use Rattle.repliss_cli.specs.declared.report.Report.TheVariants.{Verified, Unproved, ProgramBytes, Lex, Syntax, Depth, NotYet}
 use Rattle.repliss_cli.specs.FirstText.{IsFirstText}
 use Rattle.repliss_cli.specs.Answers.{IsReportOf}
-use Rattle.repliss_cli.specs.Lines.{line_for}
+use Rattle.repliss_cli.specs.means.Lines.{line_for}
 use Rattle.repliss_cli.proofs.Named.{Tells, unproved_report}
 use Rattle.repliss_cli.proofs.Readings.{Reading, too_long, faulty, bad, too_deep, tree, Reads, reads_too_long, reads_faulty, reads_bad, reads_too_deep, reads_tree, one_tree, some_reading}
 use Rattle.repliss_cli.proofs.OneReport.{OneProgram}

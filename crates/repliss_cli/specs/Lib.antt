@@ -2,4 +2,4 @@ pub mod Words
 pub mod Texts
 pub mod FirstText
 pub mod Answers
-pub mod Lines
+pub mod means

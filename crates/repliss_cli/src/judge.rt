@@ -1,5 +1,5 @@
 // The report on a program's text.
-ghost use Rattle.std.specs.Prelude.{◌≡◌, ◌+◌, ◌∷◌, [], ◌++◌, ◌≤◌, IfOk, OnOk, length, map, slice_get};
+ghost use Rattle.std.specs.Prelude.{◌≡◌, ◌+◌, ◌∷◌, [], ◌++◌, ◌≤◌, All, IfOk, OnOk, length, map, slice_get};
 ghost use Rattle.std.specs.Option.{option_map_or};
 ghost use Rattle.std.specs.Prelude.{List as Items};
 ghost use Rattle.rp_span.specs.Places.{place_of};
@@ -10,32 +10,20 @@ ghost use Rattle.rp_grammar.specs.Trees.{DeclTree};
 ghost use Rattle.rp_grammar.specs.Texts.{IsTextWithin};
 ghost use Rattle.rp_ast.specs.View.{ast_view};
 ghost use Rattle.rp_types.specs.FirstProgram.{IsProgramOf};
-ghost use Rattle.repliss_cli.specs.Lines.{line_for};
+ghost use Rattle.repliss_cli.specs.means.Lines.{line_for};
 
+use crate::places::{marks_of, place_in, place_near};
 use crate::report::{GoalLine, Report};
 use event_machine::false_by_trying;
 use rp_ast::Ast;
 use rp_lang::Program;
 use rp_lexer::{LexErr, Token, lex};
 use rp_parser::{ParseErr, parse};
-use rp_span::{Pos, Text, line_of};
+use rp_span::{Pos, Text};
 use rp_types::first_program;
 use rp_value::{List, Memory, copy_bytes, copy_list};
 use rp_verify::{GoalErr, Unproved, Verdict, verify};
 use std::alloc::Global;
-
-/// The line and the column of a place, of the end where the text ends before it.
-fn place_in(text: &Text, at: u32) -> Pos
-    ensures { result ≡ place_of text.now at }
-{
-    let within = at.min(text.len() as u32);
-    let pos = line_of(text, within);
-    Pos {
-        line: pos.line,
-        col: pos.col,
-        byte: at,
-    }
-}
 
 /// The name of a procedure.
 fn name_of(program: &Program, proc: Option<u32>) -> &[u8]
@@ -54,16 +42,18 @@ fn name_of(program: &Program, proc: Option<u32>) -> &[u8]
 fn line_for(
     alloc: Global,
     text: &Text,
+    marks: &[Pos],
     program: &Program,
     goal: &Unproved,
 ) -> Result<GoalLine, Memory>
+    requires { All (λ mark. mark ≡ place_of text.now mark.byte) marks.now }
     ensures { IfOk result (λ line. line ≡ line_for text.now (program_view program.now) goal.now) }
 {
     Ok(GoalLine {
         goal: goal.goal,
         proc: copy_bytes(alloc, name_of(program, goal.name.proc))?,
         path: copy_list(alloc, goal.name.path.as_slice())?,
-        at: place_in(text, goal.name.at.from),
+        at: place_near(text, marks, goal.name.at.from),
     })
 }
 
@@ -77,9 +67,10 @@ fn lines_for(
     ensures { IfOk result (λ lines. lines
         ≡ map (line_for text.now (program_view program.now)) goals.now) }
 {
+    let marks = marks_of(alloc, text)?;
     let mut lines = List::new(alloc);
     for goal in goals {
-        lines.push(line_for(alloc, text, program, goal)?)?;
+        lines.push(line_for(alloc, text, marks.as_slice(), program, goal)?)?;
     }
     Ok(lines)
 }

@@ -1,7 +1,7 @@
 // Reports, their statuses and their lines.
 ghost use Rattle.std.specs.Prelude.{◌≡◌, ◌++◌, ◌∷◌, [], codes, decimal, flat_map, string_bytes, IfOk, OnOk};
 ghost use Rattle.rp_io.specs.Sinks.{bytes_of};
-ghost use Rattle.repliss_cli.specs.Texts.{goal_line, choice_text, fault_name, path_text, place_text, report_text, status_of, number_of, unproved_line, verified_line};
+ghost use Rattle.repliss_cli.specs.Texts.{goal_line, choice_text, fault_name, goals_end, path_text, place_text, report_text, status_of, number_of, unproved_line, verified_line};
 
 use rp_lexer::LexFault;
 use rp_span::Pos;
@@ -139,11 +139,11 @@ fn line_of_goal(alloc: Global, goal: &GoalLine) -> Result<Vec<u8>, Memory>
 }
 
 /// A report of one line.
-fn one(alloc: Global, text: String) -> Result<Vec<Vec<u8>>, Memory>
-    ensures { IfOk result (λ lines. bytes_of lines.items ≡ string_bytes text) }
+fn one(alloc: Global, text: &str) -> Result<Vec<Vec<u8>>, Memory>
+    ensures { IfOk result (λ lines. bytes_of lines.items ≡ text.now) }
 {
     let mut lines = Vec::new(alloc);
-    lines.push(text.into_bytes())?;
+    lines.push(text.as_bytes().to_vec(alloc)?)?;
     Ok(lines)
 }
 
@@ -158,25 +158,26 @@ fn add_goals(alloc: Global, lines: &mut Vec<Vec<u8>>, goals: &[GoalLine]) -> Res
     Ok(())
 }
 
+/// The end of a line that counts goals.
+fn goals_end(goals: u32) -> &'static str
+    ensures { result.now ≡ goals_end goals }
+{
+    if goals == 1 { " goal\n" } else { " goals\n" }
+}
+
 /// The first line of a report that names unproved goals.
 fn unproved_line(alloc: Global, unproved: usize, goals: u32) -> Result<String, Memory>
     ensures { IfOk result (λ line. string_bytes line ≡ unproved_line unproved goals) }
 {
-    Ok(if goals == 1 {
-        format!(in alloc; "unproved: {unproved} of {goals} goal\n")?
-    } else {
-        format!(in alloc; "unproved: {unproved} of {goals} goals\n")?
-    })
+    let end = goals_end(goals);
+    Ok(format!(in alloc; "unproved: {unproved} of {goals}{end}")?)
 }
 
 fn verified_line(alloc: Global, goals: u32) -> Result<String, Memory>
     ensures { IfOk result (λ line. string_bytes line ≡ verified_line goals) }
 {
-    Ok(if goals == 1 {
-        format!(in alloc; "verified: {goals} goal\n")?
-    } else {
-        format!(in alloc; "verified: {goals} goals\n")?
-    })
+    let end = goals_end(goals);
+    Ok(format!(in alloc; "verified: {goals}{end}")?)
 }
 
 /// What a fault among the tokens is called.
@@ -215,24 +216,25 @@ pub fn lines(alloc: Global, report: &Report) -> Result<Vec<Vec<u8>>, Memory>
     ensures { IfOk result (λ lines. bytes_of lines.items ≡ report_text report.now) }
 {
     match report {
-        Report::Verified { goals } => one(alloc, verified_line(alloc, *goals)?),
+        Report::Verified { goals } => one(alloc, verified_line(alloc, *goals)?.as_str()),
         Report::Unproved { goals, list } => {
-            let mut lines = one(alloc, unproved_line(alloc, list.len(), *goals)?)?;
+            let first = unproved_line(alloc, list.len(), *goals)?;
+            let mut lines = one(alloc, first.as_str())?;
             add_goals(alloc, &mut lines, list.as_slice())?;
             Ok(lines)
         }
         Report::Usage => {
-            let mut lines = one(alloc, format!(in alloc; "refused: usage\n")?)?;
-            lines.push(format!(in alloc; "usage: repliss verify FILE\n")?.into_bytes())?;
+            let mut lines = one(alloc, "refused: usage\n")?;
+            lines.push("usage: repliss verify FILE\n".as_bytes().to_vec(alloc)?)?;
             Ok(lines)
         }
-        Report::ProgramBytes => one(
+        Report::ProgramBytes => one(alloc, "refused: limit program bytes 262144\n"),
+        Report::Lex { fault, at } => one(alloc, lex_line(alloc, *fault, at)?.as_str()),
+        Report::Syntax { at } => one(
             alloc,
-            format!(in alloc; "refused: limit program bytes 262144\n")?,
+            line_with_place(alloc, "refused: syntax", at)?.as_str(),
         ),
-        Report::Lex { fault, at } => one(alloc, lex_line(alloc, *fault, at)?),
-        Report::Syntax { at } => one(alloc, line_with_place(alloc, "refused: syntax", at)?),
-        Report::Depth => one(alloc, format!(in alloc; "refused: limit depth 64\n")?),
-        Report::NotYet => one(alloc, format!(in alloc; "refused: not yet\n")?),
+        Report::Depth => one(alloc, "refused: limit depth 64\n"),
+        Report::NotYet => one(alloc, "refused: not yet\n"),
     }
 }

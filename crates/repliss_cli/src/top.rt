@@ -1,5 +1,5 @@
 // The top call.
-ghost use Rattle.std.specs.Prelude.{◌≡◌, ◌≢◌, ◌<◌, Contains, IfOk, IfSome, IsErrOf, IsSome, OnErr, length};
+ghost use Rattle.std.specs.Prelude.{◌≡◌, ◌≢◌, ◌<◌, Contains, IfOk, IfSome, IsErrOf, IsSome, OnErr, OnOk, length};
 ghost use Rattle.std.specs.Option.{option_map};
 ghost use Rattle.rp_io.specs.Counts.{Rose};
 ghost use Rattle.repliss_cli.specs.declared.report.Report.{Report};
@@ -45,6 +45,7 @@ fn put_report<K: Sink>(alloc: Global, out: &mut K, report: &Report) -> Status
     ensures no_room { result ≡ Status.WriteFault
         → IfSome (K.room out.old) (λ n. n < length (report_text report.now)) }
     ensures no_read_fault { result ≢ Status.ReadFault }
+    ensures no_memory { result ≡ Status.NoMemory → K.faults out.new ≡ K.faults out.old }
 {
     let Ok(lines) = lines(alloc, report) else {
         return Status::NoMemory;
@@ -68,6 +69,8 @@ fn report_for<F: Files>(alloc: Global, words: &[String], files: &mut F) -> Resul
     ensures cause { IfOk result (λ report. HasCause words.now (F.told files.old) report) }
     ensures some_cause { OnErr result ((report : Report)
         × HasCause words.now (F.told files.old) report) }
+    ensures no_fault { OnOk result (F.faults files.new ≡ F.faults files.old) }
+    ensures no_memory { IsErrOf result Stop.NoMemory → F.faults files.new ≡ F.faults files.old }
     ensures unread { IsErrOf result Stop.Unread → Rose (F.faults files.old) (F.faults files.new) }
     ensures unread_file { IsErrOf result Stop.Unread → IsSome (named words.now) }
     ensures unsound { IsErrOf result Stop.Unread
@@ -115,6 +118,10 @@ pub fn run<F: Files, K: Sink>(alloc: Global, words: &[String], files: &mut F, ou
         → IsCutShort words.now (F.told files.old) (K.room out.old) (K.told out.old) (K.told out.new) }
     ensures no_memory_cut { result ≡ Status.NoMemory
         → IsCut words.now (F.told files.old) (K.told out.old) (K.told out.new) }
+
+    // Want of memory is never told in place of a fault.
+    ensures no_memory_no_read_fault { result ≡ Status.NoMemory → F.faults files.new ≡ F.faults files.old }
+    ensures no_memory_no_write_fault { result ≡ Status.NoMemory → K.faults out.new ≡ K.faults out.old }
 {
     match report_for(alloc, words, files) {
         Ok(report) => put_report(alloc, out, &report),

@@ -8,7 +8,7 @@ use Rattle.rp_ast.specs.declared.expr.AccessStep.TheViews.{out-AccessNode}
 use Rattle.rp_ast.specs.declared.expr.ExprNode.{ExprNode}
 use Rattle.rp_ast.specs.View.{ident_view, steps_view, args_view, access_view}
 use Rattle.rp_ast.proofs.ExprViews.{access_view-parts}
-use Rattle.rp_types.specs.Found.{access_for}
+use Rattle.rp_types.specs.means.Found.{access_for}
 use Rattle.rp_types.specs.Resolution.{Name}
 
 steps_refused : (scope : List Name) (n : Ident) (xs : List AccessStep) (args : ArgTrees) → (xs ≡ [] → ⊥) → access_for scope (AccessTree.path n (steps_view xs) args) ≡ None

@@ -10,7 +10,7 @@ use Rattle.rp_lang.specs.FirstForm.{are_over_truth_values, over_truth_values}
 use Rattle.rp_lang.specs.Programs.{Proc, Prog}
 use Rattle.rp_lang.specs.ProgramView.{program_view}
 use Rattle.rp_types.specs.FirstProgram.{IsProgramOf}
-use Rattle.rp_types.specs.Found.{procs_for, procs_of}
+use Rattle.rp_types.specs.means.Found.{procs_for, procs_of}
 use Rattle.rp_types.proofs.Parts.{guarded_is}
 use Rattle.rp_types.proofs.FoundProgram.{few_test, program_found, none_over_others}
 

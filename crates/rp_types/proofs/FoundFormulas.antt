@@ -1,5 +1,6 @@
 -- The formula that is found for an expression is the one that it has.
 use Rattle.std.proofs.Common.{◌≡◌, IsTrue, List, Some, refl, ap, subst}
+use Rattle.std.proofs.lemmas.Bool.{and_from}
 use Rattle.std.specs.Option.{option_map}
 use Rattle.rp_span.specs.declared.Span.{Span}
 use Rattle.rp_grammar.specs.Trees.{ident, ExprTree, ExprForm, ExprTrees, AccessTree, StepTrees, ArgTrees}
@@ -7,9 +8,9 @@ use Rattle.rp_lang.specs.Exprs.{Slot}
 use Rattle.rp_lang.specs.Formulas as fo
 use Rattle.rp_lang.specs.Formulas.{Fo, Fos, no_fo, also_fo}
 use Rattle.rp_types.specs.FirstForm.{is_first_expr, are_first_exprs}
-use Rattle.rp_types.specs.Found.{access_for, formula_for, form_for, formulas_for, slot_from}
+use Rattle.rp_types.specs.means.Found.{access_for, formula_for, form_for, formulas_for, slot_from}
 use Rattle.rp_types.specs.Resolution.{Name, AreDistinct, FormulaOf, FormulasOf}
-use Rattle.rp_types.proofs.Parts.{both_true, BothThere, both_there, both_are, MapThere, map_there}
+use Rattle.rp_types.proofs.Parts.{BothThere, both_there, both_are, MapThere, map_there}
 use Rattle.rp_types.proofs.NameLemmas.{slot_named, slot_found}
 
 -- ---- it is of the first form
@@ -21,11 +22,11 @@ mutual
   formula_first (FormulaOf.not x) = formula_first x
   formula_first (FormulaOf.and xs) = formulas_first xs
   formula_first (FormulaOf.or xs) = formulas_first xs
-  formula_first (FormulaOf.implies x y) = both_true _ _ (formula_first x) (formula_first y)
+  formula_first (FormulaOf.implies x y) = and_from _ _ (formula_first x) (formula_first y)
 
   formulas_first : {scope : List Name} {es : ExprTrees} {fs : Fos} → FormulasOf scope es fs → IsTrue (are_first_exprs es)
   formulas_first FormulasOf.no_formula = refl
-  formulas_first (FormulasOf.more_formulas x xs) = both_true _ _ (formula_first x) (formulas_first xs)
+  formulas_first (FormulasOf.more_formulas x xs) = and_from _ _ (formula_first x) (formulas_first xs)
 
 -- ---- what is found is right
 

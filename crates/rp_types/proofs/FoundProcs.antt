@@ -1,5 +1,6 @@
 -- The procedures that are found for a tree are those that it has.
 use Rattle.std.proofs.Common.{◌≡◌, suc, Bool, false, ◌&&◌, ◌||◌, nat_eq, nat_le, is_none, IsTrue, List, [], ◌∷◌, length, replicate, Option, Some, None, refl, sym, ap, ◌∙◌, subst}
+use Rattle.std.proofs.lemmas.Bool.{and_from, and_parts}
 use Rattle.std.specs.Cmp.Lexicographic.{pointwise}
 use Rattle.std.specs.List.{list_all}
 use Rattle.std.specs.Option.{option_map}
@@ -11,9 +12,9 @@ use Rattle.rp_lang.specs.FirstForm.{are_distinct}
 use Rattle.rp_lang.specs.Programs.{Proc}
 use Rattle.rp_lang.specs.Stmts.{Sts}
 use Rattle.rp_types.specs.FirstForm.{is_bool, is_first_block, is_first_proc, is_first_decl}
-use Rattle.rp_types.specs.Found.{scope_of, is_named, is_proc_named, names_a_proc, are_apart, has_first_head, block_for, proc_with, proc_for, decl_for, procs_for}
+use Rattle.rp_types.specs.means.Found.{scope_of, is_named, is_proc_named, names_a_proc, are_apart, has_first_head, block_for, proc_with, proc_for, decl_for, procs_for}
 use Rattle.rp_types.specs.Resolution.{Name, AreDistinct, AreApart, ParamsOf, TypeOf, BlockOf, IsProcOf, ProcsOf, names}
-use Rattle.rp_types.proofs.Parts.{both_true, both_parts, BothThere, both_there, both_are, MapThere, map_there, guarded_there, guarded_is}
+use Rattle.rp_types.proofs.Parts.{BothThere, both_there, both_are, MapThere, map_there, guarded_there, guarded_is}
 use Rattle.rp_types.proofs.NameLemmas.{distinct_names, distinct_test, apart_names, apart_test}
 use Rattle.rp_types.proofs.FoundStmts.{block_first, block_sound, block_found}
 
@@ -50,15 +51,15 @@ head_parts tree params result h =
     let none : Bool = is_none result in
     let bools : Bool = list_all is_bool params in
     let distinct : Bool = are_distinct (scope_of params) in
-    let to_apart = both_parts (few && none && bools && distinct) (are_apart tree (scope_of params)) h in
-    let to_distinct = both_parts (few && none && bools) distinct to_apart.0 in
-    let to_bools = both_parts (few && none) bools to_distinct.0 in
-    let to_none = both_parts few none to_bools.0 in
+    let to_apart = and_parts (few && none && bools && distinct) (are_apart tree (scope_of params)) h in
+    let to_distinct = and_parts (few && none && bools) distinct to_apart.0 in
+    let to_bools = and_parts (few && none) bools to_distinct.0 in
+    let to_none = and_parts few none to_bools.0 in
     record { few = to_none.0; no_result = to_none.1; bools = to_bools.1; distinct = to_distinct.1; apart = to_apart.1 }
 
 head_test : (tree : List DeclTree) (params : List ParamTree) (result : Option TypeTree) → Head tree params result → IsTrue (has_first_head tree params result)
 head_test tree params result h =
-    both_true _ _ (both_true _ _ (both_true _ _ (both_true _ _ h.few h.no_result) h.bools) h.distinct) h.apart
+    and_from _ _ (and_from _ _ (and_from _ _ (and_from _ _ h.few h.no_result) h.bools) h.distinct) h.apart
 
 absent : {X : Type 0} (o : Option X) → IsTrue (is_none o) → o ≡ None
 absent None h = refl
@@ -122,10 +123,10 @@ module _ (tree : List DeclTree) (others : List Name) (same : (n : Name) → name
       let facts = param_facts proc.typed in
       let shape : ProcTree = ProcTree.proc (ident p.name proc.name_at) proc.params None proc.body in
       let first_here : IsTrue (is_first_proc shape) = subst (λ y. IsTrue (is_first_proc y)) proc.is first in
-      let few = both_parts (nat_le (length proc.params) 8 && list_all is_bool proc.params) (is_first_block proc.body) first_here in
+      let few = and_parts (nat_le (length proc.params) 8 && list_all is_bool proc.params) (is_first_block proc.body) first_here in
       let distinct : AreDistinct (scope_of proc.params) = subst AreDistinct facts.scope_is proc.distinct in
       let head : Head tree proc.params None = record {
-        few = (both_parts (nat_le (length proc.params) 8) (list_all is_bool proc.params) few.0).0;
+        few = (and_parts (nat_le (length proc.params) 8) (list_all is_bool proc.params) few.0).0;
         no_result = refl;
         bools = facts.bools;
         distinct = distinct_test (scope_of proc.params) distinct;
@@ -139,7 +140,7 @@ module _ (tree : List DeclTree) (others : List Name) (same : (n : Name) → name
   pub procs_found : {ds : List DeclTree} {ps : List Proc} → IsTrue (list_all is_first_decl ds) → ProcsOf others ds ps → procs_for tree ds ≡ Some ps
   procs_found first ProcsOf.no_proc = refl
   procs_found first (ProcsOf.more_procs {at = at} {tree = x} {p = p} {ds = ds} proc more) =
-      let parts = both_parts (is_first_proc x) (list_all is_first_decl ds) first in
+      let parts = and_parts (is_first_proc x) (list_all is_first_decl ds) first in
       both_are ◌∷◌ (proc_found at x p parts.0 proc) (procs_found parts.1 more)
 
 -- ---- they are of the first form
@@ -149,7 +150,7 @@ proc_first tree at (ProcTree.proc (ident name s) params None body) p e =
     let there = guarded_there (has_first_head tree params None) (option_map (proc_with name at params body) (block_for (scope_of params) body)) p e in
     let made : MapThere (proc_with name at params body) (block_for (scope_of params) body) p = map_there (proc_with name at params body) (block_for (scope_of params) body) p there.1 in
     let head = head_parts tree params None there.0 in
-    both_true _ _ (both_true _ _ head.few head.bools) (block_first (block_sound (scope_of params) body made.inner made.inner_is))
+    and_from _ _ (and_from _ _ head.few head.bools) (block_first (block_sound (scope_of params) body made.inner made.inner_is))
 proc_first tree at (ProcTree.proc (ident name s) params (Some r) body) p e =
     let there = guarded_there (has_first_head tree params (Some r)) (option_map (proc_with name at params body) (block_for (scope_of params) body)) p e in
     let none : IsTrue false = (head_parts tree params (Some r) there.0).no_result in absurd (cc)
@@ -162,7 +163,7 @@ pub procs_first : (tree ds : List DeclTree) (ps : List Proc) → procs_for tree 
 procs_first tree [] ps e = refl
 procs_first tree (d ∷ ds) ps e =
     let there : BothThere ◌∷◌ (decl_for tree d) (procs_for tree ds) ps = both_there ◌∷◌ (decl_for tree d) (procs_for tree ds) ps e in
-    both_true _ _ (decl_first tree d there.left there.left_is) (procs_first tree ds there.right there.right_is)
+    and_from _ _ (decl_first tree d there.left there.left_is) (procs_first tree ds there.right there.right_is)
 
 -- ---- the names of procedures
 

@@ -1,14 +1,15 @@
 -- The program that is found for a tree is the one that it has, and where none is found it has none.
 use Rattle.std.proofs.Common.{◌≡◌, ℕ, ◌≤◌, nat_le, ◌&&◌, IsTrue, List, length, Some, None, refl, sym, ap, ◌∙◌, subst, rules, tests}
+use Rattle.std.proofs.lemmas.Bool.{and_parts}
 use Rattle.std.specs.List.{list_all}
 use Rattle.rp_grammar.specs.Trees.{DeclTree}
 use Rattle.rp_lang.specs.FirstForm.{are_over_truth_values, over_truth_values, is_over_truth_values, are_distinct}
 use Rattle.rp_lang.specs.Programs.{Proc, Prog}
 use Rattle.rp_lang.proofs.ProgramLemmas.{few_procs}
 use Rattle.rp_types.specs.FirstProgram.{IsProgramOf}
-use Rattle.rp_types.specs.Found.{is_named, names_a_proc, procs_for, procs_of}
+use Rattle.rp_types.specs.means.Found.{is_named, names_a_proc, procs_for, procs_of}
 use Rattle.rp_types.specs.Resolution.{Name, names}
-use Rattle.rp_types.proofs.Parts.{both_parts, guarded_there, guarded_is}
+use Rattle.rp_types.proofs.Parts.{guarded_there, guarded_is}
 use Rattle.rp_types.proofs.NameLemmas.{distinct_names}
 use Rattle.rp_types.proofs.FoundProcs.{procs_sound, procs_found, procs_first, procs_named, of_named, as_many}
 
@@ -23,7 +24,7 @@ program_found tree procs e over =
     record {
       form = procs_first tree tree procs there.1;
       procs = procs_sound tree (names procs) same tree procs there.1;
-      distinct = distinct_names (names procs) (both_parts (nat_le (length procs) 64 && list_all is_over_truth_values procs) (are_distinct (names procs)) over).1;
+      distinct = distinct_names (names procs) (and_parts (nat_le (length procs) 64 && list_all is_over_truth_values procs) (are_distinct (names procs)) over).1;
       plain = record { parts = refl; procs = over };
     }
 

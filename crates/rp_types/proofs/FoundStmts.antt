@@ -1,14 +1,15 @@
 -- The statements that are found for a tree are those that it has.
 use Rattle.std.proofs.Common.{◌≡◌, IsTrue, List, Some, refl, ap, subst}
+use Rattle.std.proofs.lemmas.Bool.{and_from}
 use Rattle.std.specs.Option.{option_map}
 use Rattle.rp_span.specs.declared.Span.{Span}
 use Rattle.rp_grammar.specs.Trees.{BlockTree, StmtTree, StmtForm, StmtTrees, ElseTree}
 use Rattle.rp_lang.specs.Stmts as st
 use Rattle.rp_lang.specs.Stmts.{St, Sts, no_st, also_st}
 use Rattle.rp_types.specs.FirstForm.{is_first_stmt, is_first_block, are_first_stmts, is_first_else}
-use Rattle.rp_types.specs.Found.{formula_for, stmt_for, stmt_form_for, block_for, stmts_for, else_for}
+use Rattle.rp_types.specs.means.Found.{formula_for, stmt_for, stmt_form_for, block_for, stmts_for, else_for}
 use Rattle.rp_types.specs.Resolution.{Name, AreDistinct, StmtOf, BlockOf, StmtsOf, ElseOf}
-use Rattle.rp_types.proofs.Parts.{both_true, BothThere, both_there, both_are, MapThere, map_there, BranchThere, branch_there, branch_is}
+use Rattle.rp_types.proofs.Parts.{BothThere, both_there, both_are, MapThere, map_there, BranchThere, branch_there, branch_is}
 use Rattle.rp_types.proofs.FoundFormulas.{formula_first, formula_sound, formula_found}
 
 -- ---- they are of the first form
@@ -16,14 +17,14 @@ use Rattle.rp_types.proofs.FoundFormulas.{formula_first, formula_sound, formula_
 mutual
   stmt_first : {scope : List Name} {x : StmtTree} {s : St} → StmtOf scope x s → IsTrue (is_first_stmt x)
   stmt_first (StmtOf.assert f) = formula_first f
-  stmt_first (StmtOf.if_ f b x) = both_true _ _ (both_true _ _ (formula_first f) (block_first b)) (else_first x)
+  stmt_first (StmtOf.if_ f b x) = and_from _ _ (and_from _ _ (formula_first f) (block_first b)) (else_first x)
 
   pub block_first : {scope : List Name} {b : BlockTree} {ss : Sts} → BlockOf scope b ss → IsTrue (is_first_block b)
   block_first (BlockOf.block xs) = stmts_first xs
 
   stmts_first : {scope : List Name} {xs : StmtTrees} {ss : Sts} → StmtsOf scope xs ss → IsTrue (are_first_stmts xs)
   stmts_first StmtsOf.no_stmt = refl
-  stmts_first (StmtsOf.more_stmts x xs) = both_true _ _ (stmt_first x) (stmts_first xs)
+  stmts_first (StmtsOf.more_stmts x xs) = and_from _ _ (stmt_first x) (stmts_first xs)
 
   else_first : {scope : List Name} {x : ElseTree} {ss : Sts} → ElseOf scope x ss → IsTrue (is_first_else x)
   else_first ElseOf.no_else = refl

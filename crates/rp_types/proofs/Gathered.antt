@@ -6,7 +6,7 @@ use Rattle.rp_lang.specs.Formulas.{Fo, no_fo, also_fo}
 use Rattle.rp_lang.specs.Programs.{Proc}
 use Rattle.rp_lang.specs.Stmts.{St, no_st, also_st}
 use Rattle.rp_lang.specs.Views.{fos_of, sts_of}
-use Rattle.rp_types.specs.Found.{both}
+use Rattle.rp_types.specs.means.Found.{both}
 
 -- the parts, and then the rest
 abbrev pub before : {V R : Type 0} → (V → R → R) → List V → R → R

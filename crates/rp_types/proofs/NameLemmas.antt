@@ -7,7 +7,7 @@ use Rattle.std.proofs.lemmas.List.Folds.{list_any_at}
 use Rattle.std.proofs.lemmas.Option.{slice_get_within, get_or_from_slice_get}
 use Rattle.rp_grammar.specs.Trees.{DeclTree}
 use Rattle.rp_lang.specs.FirstForm.{are_distinct}
-use Rattle.rp_types.specs.Found.{is_named, slot_from, names_a_proc, are_apart}
+use Rattle.rp_types.specs.means.Found.{is_named, slot_from, names_a_proc, are_apart}
 use Rattle.rp_types.specs.Resolution.{Name, AreDistinct, AreApart}
 
 same_name : (a b : Name) → pointwise nat_eq a b ≡ true → a ≡ b

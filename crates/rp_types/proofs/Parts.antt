@@ -1,18 +1,10 @@
 -- What is found of parts that are found.
-use Rattle.std.proofs.Common.{◌≡◌, Bool, true, false, ◌&&◌, IsTrue, Option, Some, None, refl, ap, ◌∙◌}
+use Rattle.std.proofs.Common.{◌≡◌, Bool, true, false, IsTrue, Option, Some, None, refl, ap, ◌∙◌}
 use Rattle.std.specs.Option.{option_map}
 use Rattle.rp_lang.specs.Formulas.{Fo}
 use Rattle.rp_lang.specs.Stmts.{St, Sts, If}
 use Rattle.rp_span.specs.declared.Span.{Span}
-use Rattle.rp_types.specs.Found.{both, guarded, branch}
-
-pub both_true : (a b : Bool) → IsTrue a → IsTrue b → IsTrue (a && b)
-both_true true b p q = q
-both_true false b p q = p
-
-pub both_parts : (a b : Bool) → IsTrue (a && b) → IsTrue a × IsTrue b
-both_parts true b h = (refl, h)
-both_parts false b h = absurd (cc)
+use Rattle.rp_types.specs.means.Found.{both, guarded, branch}
 
 pub record BothThere {X Y Z : Type 0} (f : X → Y → Z) (a : Option X) (b : Option Y) (z : Z) : Type 0 where
   pub left : X

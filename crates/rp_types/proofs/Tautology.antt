@@ -1,7 +1,7 @@
 -- The program of the tautology's tree.
 use Rattle.std.proofs.Common.{ℕ, zero, suc, ◌<◌, List, [], ◌∷◌, ◌≡◌, codes, get_or, refl, ap, arith}
 use Rattle.rp_types.specs.Resolution.{no_proc, more_procs, no_param, more_params, bool, block, no_stmt, more_stmts, assert, variable, not, or, no_formula, more_formulas}
-use Rattle.rp_types.specs.Rows.{HasProgram}
+use Rattle.rp_types.specs.rows.Rows.{HasProgram}
 
 none_other : (k : ℕ) → k < 0 → ⊥
 none_other k lt = absurd (omega arith)

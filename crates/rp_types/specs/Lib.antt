@@ -1,5 +1,5 @@
 pub mod FirstForm
 pub mod Resolution
 pub mod FirstProgram
-pub mod Found
-pub mod Rows
+pub mod means
+pub mod rows

@@ -6,7 +6,7 @@
 ghost use Rattle.std.specs.Prelude.{◌≡◌, Some, None, IfOk, IsErrOf};
 ghost use Rattle.rp_ast.specs.View as tree;
 ghost use Rattle.rp_lang.specs.Views.{formula_view, formulas_view};
-ghost use Rattle.rp_types.specs.Found as spec;
+ghost use Rattle.rp_types.specs.means.Found as spec;
 
 use crate::nodes::{conjunction, disjunction, implication, negation, truth};
 use crate::scope::Scope;

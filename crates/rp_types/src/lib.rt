@@ -7,9 +7,10 @@ mod names;
 mod nodes;
 mod procedure;
 mod program;
+mod rows;
 mod scope;
 mod stmt;
 mod stop;
 
-pub use laws::{one_program, worked_rows};
+pub use laws::one_program;
 pub use program::first_program;

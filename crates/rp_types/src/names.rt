@@ -3,7 +3,7 @@
 ghost use Rattle.std.specs.Prelude.{◌≡◌};
 ghost use Rattle.rp_ast.specs.View.{params_view, decl_view, decls_view};
 ghost use Rattle.rp_lang.specs.FirstForm as first;
-ghost use Rattle.rp_types.specs.Found as spec;
+ghost use Rattle.rp_types.specs.means.Found as spec;
 
 use rp_ast::{Decl, DeclForm, Param};
 

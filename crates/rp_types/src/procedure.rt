@@ -7,7 +7,7 @@ ghost use Rattle.rp_ast.specs.View as tree;
 ghost use Rattle.rp_lang.specs.Views.{proc_view, stmts_view};
 ghost use Rattle.rp_types.specs.FirstForm as first;
 ghost use Rattle.rp_types.specs.Resolution.{block_end};
-ghost use Rattle.rp_types.specs.Found as spec;
+ghost use Rattle.rp_types.specs.means.Found as spec;
 
 use crate::names::{are_apart, are_distinct};
 use crate::scope::Scope;

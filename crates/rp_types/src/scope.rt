@@ -2,7 +2,7 @@ ghost use Rattle.std.specs.Prelude.{◌≡◌, Some, None, IfOk, IsErrOf};
 ghost use Rattle.std.specs.Option.{option_map};
 ghost use Rattle.rp_ast.specs.View as tree;
 ghost use Rattle.rp_lang.specs.Views.{formula_view};
-ghost use Rattle.rp_types.specs.Found as spec;
+ghost use Rattle.rp_types.specs.means.Found as spec;
 
 use crate::nodes::variable;
 use crate::stop::Stop;

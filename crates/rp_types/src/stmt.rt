@@ -3,7 +3,7 @@
 ghost use Rattle.std.specs.Prelude.{◌≡◌, Some, None, IfOk, IsErrOf};
 ghost use Rattle.rp_ast.specs.View as tree;
 ghost use Rattle.rp_lang.specs.Views.{stmt_view, stmts_view};
-ghost use Rattle.rp_types.specs.Found as spec;
+ghost use Rattle.rp_types.specs.means.Found as spec;
 
 use crate::nodes::{assertion, branching};
 use crate::scope::Scope;

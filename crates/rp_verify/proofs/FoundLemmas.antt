@@ -11,9 +11,9 @@ use Rattle.event_machine.specs.Propositions.{truth}
 use Rattle.event_machine.specs.Goals.{Choice, Goal, branch, chosen, check_goals, slots_of}
 use Rattle.event_machine.specs.Tests.{all_values, as_chosen, follows, is_false}
 use Rattle.rp_verify.specs.declared.verdict.Unproved.{Unproved}
-use Rattle.rp_verify.specs.Counted.{assertions}
-use Rattle.rp_verify.specs.Rows.{holds, fails}
-use Rattle.rp_verify.specs.Found.{entry, found_at, found_in}
+use Rattle.rp_verify.specs.means.Counted.{assertions}
+use Rattle.rp_verify.specs.means.Rows.{holds, fails}
+use Rattle.rp_verify.specs.means.Found.{entry, found_at, found_in}
 use Rattle.rp_verify.specs.Verdicts.{name_of, unproved_from}
 use Rattle.rp_verify.proofs.PadLemmas.{padded, truth-padded}
 

@@ -6,7 +6,7 @@ use Rattle.rp_lang.specs.Exprs.{Ex, Exs, Slot, Con, no_ex, also_ex}
 use Rattle.rp_lang.specs.Formulas.{Fo, Fos, And, Or, Not, Implies, Holds, no_fo, also_fo}
 use Rattle.event_machine.specs.Propositions.{slot_value, value, values_of, is_true, truth, all_true, any_true}
 use Rattle.event_machine.specs.Goals.{slots_of}
-use Rattle.rp_verify.specs.Rows.{with_values}
+use Rattle.rp_verify.specs.means.Rows.{with_values}
 
 -- each slot has one value in both
 abbrev pub Agree : List (Option Val) → List (Option Val) → Type 0

@@ -11,8 +11,8 @@ use Rattle.event_machine.specs.Checks.{Done, stmts_checks}
 use Rattle.event_machine.specs.Goals.{proc_goals, goals_from}
 use Rattle.event_machine.specs.Tests.{all_values, follows}
 use Rattle.rp_verify.specs.declared.verdict.Unproved.{Unproved}
-use Rattle.rp_verify.specs.Counted.{proc_assertions}
-use Rattle.rp_verify.specs.Found.{found_in}
+use Rattle.rp_verify.specs.means.Counted.{proc_assertions}
+use Rattle.rp_verify.specs.means.Found.{found_in}
 use Rattle.rp_verify.specs.Verdicts.{proc_paths, HasFewPaths, IsFirstPast, unproved_from}
 use Rattle.rp_verify.proofs.PadLemmas.{padded}
 use Rattle.rp_verify.proofs.FoundLemmas.{length-check_goals, unproved_from-append, found-unproved}

@@ -2,7 +2,7 @@
 use Rattle.std.proofs.Common.{◌≡◌, ℕ, zero, suc, ◌+◌, ◌-◌, ◌<◌, Bool, true, false, List, [], ◌∷◌, ◌++◌, length, map, set, Result, Ok, Err, OnOk, refl, sym, ◌∙◌, ap, arith, append_assoc}
 use Rattle.std.proofs.lemmas.List.{map-append}
 use Rattle.event_machine.specs.Tests.{all_values}
-use Rattle.rp_verify.specs.Rows.{with_values}
+use Rattle.rp_verify.specs.means.Rows.{with_values}
 
 pub OnOk-implies : {A E P Q : Type 0} (r : Result A E) → (P → Q) → OnOk r P → OnOk r Q
 OnOk-implies (Ok x) f p = f p

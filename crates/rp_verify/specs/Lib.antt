@@ -1,6 +1,2 @@
-pub mod Counted
-pub mod Rows
-pub mod Followed
-pub mod Found
-pub mod Left
 pub mod Verdicts
+pub mod means

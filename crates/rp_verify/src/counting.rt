@@ -1,7 +1,7 @@
 // How many paths and goals statements have.
 ghost use Rattle.event_machine.specs.Checks.{Checks, Done, stmt_checks, stmts_checks};
 ghost use Rattle.rp_lang.specs.Views.{stmt_view, stmts_view};
-ghost use Rattle.rp_verify.specs.Counted.{AreCounts};
+ghost use Rattle.rp_verify.specs.means.Counted.{AreCounts};
 
 use crate::counts::Counts;
 use rp_lang::{Stmt, StmtKind};

@@ -3,7 +3,7 @@ ghost use Rattle.rp_lang.specs.FirstForm.{IsFirstForm};
 ghost use Rattle.rp_lang.specs.ProgramView.{program_view};
 ghost use Rattle.rp_lang.specs.Views.{proc_view};
 ghost use Rattle.event_machine.specs.Goals.{goals, proc_goals};
-ghost use Rattle.rp_verify.specs.Counted.{proc_assertions};
+ghost use Rattle.rp_verify.specs.means.Counted.{proc_assertions};
 ghost use Rattle.rp_verify.specs.Verdicts.{IsPast, IsWithinLimits, Says, unproved, unproved_from};
 
 use crate::counting::body_counts;

@@ -12,4 +12,3 @@ mod walk;
 
 pub use goals::verify;
 pub use verdict::{GoalErr, Unproved, Verdict};
-

@@ -3,7 +3,7 @@ ghost use Rattle.std.specs.Prelude.{◌≡◌, ◌≤◌, ◌-◌, ◌++◌, map
 ghost use Rattle.std.specs.List.{list_all};
 ghost use Rattle.event_machine.specs.Tests.{all_values};
 ghost use Rattle.rp_lang.specs.Views.{formula_view};
-ghost use Rattle.rp_verify.specs.Rows.{with_values, holds, fails};
+ghost use Rattle.rp_verify.specs.means.Rows.{with_values, holds, fails};
 
 use crate::truth::is_true;
 use rp_lang::Formula;

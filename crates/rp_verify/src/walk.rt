@@ -1,10 +1,10 @@
 ghost use Rattle.std.specs.Prelude.{◌≡◌, ◌+◌, ◌<◌, ◌^◌, ◌++◌, [], ◌∷◌, OnOk, IfOk};
 ghost use Rattle.event_machine.specs.Checks.{Done, stmt_checks, stmts_checks};
 ghost use Rattle.rp_lang.specs.Views.{formula_view, stmt_view, stmts_view};
-ghost use Rattle.rp_verify.specs.Counted.{assertions};
-ghost use Rattle.rp_verify.specs.Followed.{followed};
-ghost use Rattle.rp_verify.specs.Found.{found_at};
-ghost use Rattle.rp_verify.specs.Left.{left_checks};
+ghost use Rattle.rp_verify.specs.means.Counted.{assertions};
+ghost use Rattle.rp_verify.specs.means.Followed.{followed};
+ghost use Rattle.rp_verify.specs.means.Found.{found_at};
+ghost use Rattle.rp_verify.specs.means.Left.{left_checks};
 
 use crate::left::Left;
 use crate::rows::{Row, divided, holds_at_all};

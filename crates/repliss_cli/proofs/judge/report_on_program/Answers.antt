@@ -2,7 +2,7 @@ use Rattle.std.proofs.Common.{subst, ap, ◌∙◌, map}
 use Rattle.rp_lang.specs.ProgramView.{program_view}
 use Rattle.rp_verify.specs.Verdicts.{Says}
 use Rattle.rp_verify.specs.declared.verdict.Verdict.TheVariants as verdict
-use Rattle.repliss_cli.specs.Lines.{line_for}
+use Rattle.repliss_cli.specs.means.Lines.{line_for}
 use Rattle.repliss_cli.proofs.Named.{unproved_report}
 use Rattle.repliss_cli.proofs.Refused.{first_text, past_text, past_limits}
 use Rattle.repliss_cli.proofs.judge.report_on_program.Goals as goal

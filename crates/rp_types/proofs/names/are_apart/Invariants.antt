@@ -1,6 +1,6 @@
 use Rattle.std.proofs.Common.{◌≡◌, drop}
 use Rattle.rp_ast.specs.View.{params_view, decls_view}
-use Rattle.rp_types.specs.Found.{scope_of, are_apart}
+use Rattle.rp_types.specs.means.Found.{scope_of, are_apart}
 use Rattle.rp_types.proofs.names.are_apart.Given as goal
 
 abbrev pub invariant-loop-param : goal.invariant-loop-param

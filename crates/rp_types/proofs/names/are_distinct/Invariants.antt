@@ -1,7 +1,7 @@
 use Rattle.std.proofs.Common.{◌≡◌, length}
 use Rattle.rp_ast.specs.View.{params_view}
 use Rattle.rp_lang.specs.FirstForm as first
-use Rattle.rp_types.specs.Found.{scope_of}
+use Rattle.rp_types.specs.means.Found.{scope_of}
 use Rattle.rp_types.proofs.names.are_distinct.Given as goal
 
 abbrev pub invariant-loop-left : goal.invariant-loop-left

@@ -1,6 +1,6 @@
 use Rattle.std.proofs.Common.{◌≡◌, drop}
 use Rattle.rp_ast.specs.View.{params_view}
-use Rattle.rp_types.specs.Found.{is_named, scope_of}
+use Rattle.rp_types.specs.means.Found.{is_named, scope_of}
 use Rattle.rp_types.proofs.names.is_named.Given as goal
 
 abbrev pub invariant-loop-param : goal.invariant-loop-param

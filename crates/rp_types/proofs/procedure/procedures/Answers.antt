@@ -1,7 +1,7 @@
 use Rattle.std.proofs.Common.{◌∷◌, [], map, refl, ap, ◌∙◌, Some}
 use Rattle.rp_ast.specs.View as tree
 use Rattle.rp_lang.specs.Views.{proc_view}
-use Rattle.rp_types.specs.Found as spec
+use Rattle.rp_types.specs.means.Found as spec
 use Rattle.rp_types.proofs.Gathered.{one_more, all_found, pushed_map, procs_before}
 use Rattle.rp_types.proofs.Answered.{procs_within}
 use Rattle.rp_types.proofs.procedure.procedures.Goals as goal

@@ -2,7 +2,7 @@ use Rattle.std.proofs.Common.{◌≡◌, ◌∷◌, map, drop}
 use Rattle.std.specs.Option.{option_map}
 use Rattle.rp_ast.specs.View as tree
 use Rattle.rp_lang.specs.Views.{proc_view}
-use Rattle.rp_types.specs.Found as spec
+use Rattle.rp_types.specs.means.Found as spec
 use Rattle.rp_types.proofs.Gathered.{before}
 use Rattle.rp_types.proofs.procedure.procedures.Given as goal
 

@@ -2,7 +2,7 @@ use Rattle.std.proofs.Common.{◌≡◌, List, map, Some, None, Err, ap, subst}
 use Rattle.rp_ast.specs.View.{ast_view, decls_view}
 use Rattle.rp_lang.specs.Programs.{Proc}
 use Rattle.rp_lang.specs.Views.{proc_view}
-use Rattle.rp_types.specs.Found.{procs_of}
+use Rattle.rp_types.specs.means.Found.{procs_of}
 use Rattle.rp_types.proofs.Answered.{answered_some, answered_none}
 use Rattle.rp_types.proofs.FoundProgram.{none_without_procs}
 use Rattle.rp_types.proofs.program.first_program.Goals as goal

@@ -1,7 +1,7 @@
 use Rattle.std.proofs.Common.{◌≡◌, drop, subst, arith}
 use Rattle.event_machine.specs.Checks.{stmts_checks}
 use Rattle.rp_lang.specs.Views.{stmts_view}
-use Rattle.rp_verify.specs.Counted.{AreCounts}
+use Rattle.rp_verify.specs.means.Counted.{AreCounts}
 use Rattle.rp_verify.proofs.counting.+counts.Goals as goal
 
 pub stmts_counts-returns : goal.stmts_counts-returns

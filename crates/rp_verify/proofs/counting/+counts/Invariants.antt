@@ -1,7 +1,7 @@
 use Rattle.std.proofs.Common.{◌≤◌, length, drop}
 use Rattle.event_machine.specs.Checks.{Checks, stmts_checks}
 use Rattle.rp_lang.specs.Views.{stmts_view}
-use Rattle.rp_verify.specs.Counted.{AreCounts}
+use Rattle.rp_verify.specs.means.Counted.{AreCounts}
 use Rattle.rp_verify.proofs.counting.+counts.Given as goal
 
 abbrev pub invariant-stmts_counts-loop-i : goal.invariant-stmts_counts-loop-i

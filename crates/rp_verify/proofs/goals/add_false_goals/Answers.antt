@@ -4,8 +4,8 @@ use Rattle.event_machine.specs.Checks.{Done, stmts_checks}
 use Rattle.event_machine.specs.Goals.{proc_goals}
 use Rattle.event_machine.specs.Tests.{all_values}
 use Rattle.rp_verify.specs.declared.verdict.Unproved.{Unproved}
-use Rattle.rp_verify.specs.Counted.{proc_assertions}
-use Rattle.rp_verify.specs.Found.{found_in}
+use Rattle.rp_verify.specs.means.Counted.{proc_assertions}
+use Rattle.rp_verify.specs.means.Found.{found_in}
 use Rattle.rp_verify.specs.Verdicts.{unproved_from}
 use Rattle.rp_verify.proofs.RowLemmas.{OnOk-implies}
 use Rattle.rp_verify.proofs.PadLemmas.{padded}

@@ -1,7 +1,7 @@
 use Rattle.std.proofs.Common.{◌≡◌, ◌+◌, ◌++◌, [], map, sum_by, drop}
 use Rattle.rp_lang.specs.Views.{proc_view}
 use Rattle.event_machine.specs.Goals.{goals_from}
-use Rattle.rp_verify.specs.Counted.{proc_assertions}
+use Rattle.rp_verify.specs.means.Counted.{proc_assertions}
 use Rattle.rp_verify.specs.Verdicts.{unproved_from}
 use Rattle.rp_verify.proofs.goals.false_goals.Given as goal
 

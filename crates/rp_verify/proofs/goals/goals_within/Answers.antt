@@ -3,7 +3,7 @@ use Rattle.rp_lang.specs.declared.proc.ProcDecl.{ProcDecl}
 use Rattle.rp_lang.specs.Views.{proc_view, stmts_view}
 use Rattle.event_machine.specs.Checks.{Done, stmts_checks, paths}
 use Rattle.event_machine.specs.Goals.{goals_from}
-use Rattle.rp_verify.specs.Counted.{assertions, proc_assertions}
+use Rattle.rp_verify.specs.means.Counted.{assertions, proc_assertions}
 use Rattle.rp_verify.specs.Verdicts.{proc_paths, HasFewPaths, IsFirstPast}
 use Rattle.rp_verify.proofs.ProcLemmas.{few_more, counted_more, few_all, counted_all, first_past}
 use Rattle.rp_verify.proofs.goals.goals_within.Goals as goal

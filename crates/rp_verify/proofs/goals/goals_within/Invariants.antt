@@ -1,6 +1,6 @@
 use Rattle.std.proofs.Common.{◌≡◌, map, sum_by, All, min, take}
 use Rattle.rp_lang.specs.Views.{proc_view}
-use Rattle.rp_verify.specs.Counted.{proc_assertions}
+use Rattle.rp_verify.specs.means.Counted.{proc_assertions}
 use Rattle.rp_verify.specs.Verdicts.{HasFewPaths}
 use Rattle.rp_verify.proofs.goals.goals_within.Given as goal
 

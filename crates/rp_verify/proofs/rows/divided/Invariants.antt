@@ -1,6 +1,6 @@
 use Rattle.std.proofs.Common.{◌≡◌, filter, take}
 use Rattle.rp_lang.specs.Views.{formula_view}
-use Rattle.rp_verify.specs.Rows.{holds, fails}
+use Rattle.rp_verify.specs.means.Rows.{holds, fails}
 use Rattle.rp_verify.proofs.rows.divided.Given as goal
 
 abbrev pub invariant-loop-row : goal.invariant-loop-row

@@ -1,7 +1,7 @@
 use Rattle.std.proofs.Common.{◌≡◌, drop}
 use Rattle.std.specs.List.{list_all}
 use Rattle.rp_lang.specs.Views.{formula_view}
-use Rattle.rp_verify.specs.Rows.{holds}
+use Rattle.rp_verify.specs.means.Rows.{holds}
 use Rattle.rp_verify.proofs.rows.holds_at_all.Given as goal
 
 abbrev pub invariant-loop-row : goal.invariant-loop-row

@@ -2,7 +2,7 @@ use Rattle.std.proofs.Common.{map, refl, ap, ◌∙◌, Some}
 use Rattle.rp_ast.specs.View as tree
 use Rattle.rp_lang.specs.Formulas.{no_fo, also_fo}
 use Rattle.rp_lang.specs.Views.{formula_view}
-use Rattle.rp_types.specs.Found as spec
+use Rattle.rp_types.specs.means.Found as spec
 use Rattle.rp_types.proofs.Gathered.{one_more, all_found, pushed_map, fos_before}
 use Rattle.rp_types.proofs.scope.Scope.+formulas.Goals as goal
 

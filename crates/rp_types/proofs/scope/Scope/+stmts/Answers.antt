@@ -2,7 +2,7 @@ use Rattle.std.proofs.Common.{map, refl, ap, ◌∙◌, Some}
 use Rattle.rp_ast.specs.View as tree
 use Rattle.rp_lang.specs.Stmts.{no_st, also_st}
 use Rattle.rp_lang.specs.Views.{stmt_view}
-use Rattle.rp_types.specs.Found as spec
+use Rattle.rp_types.specs.means.Found as spec
 use Rattle.rp_types.proofs.Gathered.{one_more, all_found, pushed_map, sts_before}
 use Rattle.rp_types.proofs.scope.Scope.+stmts.Goals as goal
 

@@ -3,7 +3,7 @@ use Rattle.std.specs.Option.{option_map}
 use Rattle.rp_ast.specs.View as tree
 use Rattle.rp_lang.specs.Stmts.{also_st}
 use Rattle.rp_lang.specs.Views.{stmt_view}
-use Rattle.rp_types.specs.Found as spec
+use Rattle.rp_types.specs.means.Found as spec
 use Rattle.rp_types.proofs.Gathered.{before}
 use Rattle.rp_types.proofs.scope.Scope.+stmts.Given as goal
 

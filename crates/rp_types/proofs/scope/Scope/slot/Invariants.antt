@@ -1,6 +1,6 @@
 use Rattle.std.proofs.Common.{◌≡◌, drop}
 use Rattle.rp_ast.specs.View.{params_view}
-use Rattle.rp_types.specs.Found.{scope_of, slot_from}
+use Rattle.rp_types.specs.means.Found.{scope_of, slot_from}
 use Rattle.rp_types.proofs.scope.Scope.slot.Given as goal
 
 abbrev pub invariant-loop-slot : goal.invariant-loop-slot

@@ -1,5 +1,5 @@
 use Rattle.rp_ast.specs.View.{params_view}
-use Rattle.rp_types.specs.Found.{scope_of}
+use Rattle.rp_types.specs.means.Found.{scope_of}
 use Rattle.rp_types.proofs.Accesses.{with_steps, with_args}
 use Rattle.rp_types.proofs.scope.Scope.variable.Goals.{then-not-is_empty-via-then-not-is_empty, then-not-is_empty-via-else-not-is_empty+then-is_some}
 use Rattle.rp_types.proofs.scope.Scope.variable.Goals as goal

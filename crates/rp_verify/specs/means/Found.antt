@@ -6,8 +6,8 @@ use Rattle.rp_lang.specs.declared.goal.GoalKind.TheVariants as kind
 use Rattle.rp_lang.specs.Formulas.{Fo}
 use Rattle.event_machine.specs.Checks.{Checks, Done, Assert, Choose}
 use Rattle.rp_verify.specs.declared.verdict.Unproved.{Unproved}
-use Rattle.rp_verify.specs.Counted.{assertions}
-use Rattle.rp_verify.specs.Rows.{holds, fails}
+use Rattle.rp_verify.specs.means.Counted.{assertions}
+use Rattle.rp_verify.specs.means.Rows.{holds, fails}
 
 -- goal n, by its name
 abbrev pub entry : ℕ → List ℕ → ℕ → Span → Unproved

@@ -2,8 +2,8 @@
 use Rattle.std.specs.Prelude.{◌+◌, Bool, List, ◌++◌}
 use Rattle.event_machine.specs.Checks.{Checks}
 use Rattle.rp_verify.specs.declared.walk.Walk.{Walk}
-use Rattle.rp_verify.specs.Counted.{assertions}
-use Rattle.rp_verify.specs.Found.{found_in}
+use Rattle.rp_verify.specs.means.Counted.{assertions}
+use Rattle.rp_verify.specs.means.Found.{found_in}
 
 -- it counted the goals of the checks, and has added those that fail at some of the rows
 abbrev pub followed : Walk → List (List Bool) → Checks → Walk

@@ -1,0 +1,5 @@
+pub mod Left
+pub mod Found
+pub mod Counted
+pub mod Followed
+pub mod Rows

@@ -1,0 +1,96 @@
+//! What words, symbols and kinds of tokens are called in a row.
+
+use rp_lexer::{Symbol, TokenKind, Word};
+
+pub fn kind_name(kind: TokenKind) -> &'static str {
+    match kind {
+        TokenKind::Name => "Name",
+        TokenKind::Word => "Word",
+        TokenKind::Int => "Int",
+        TokenKind::Str => "Str",
+        TokenKind::Symbol => "Symbol",
+        TokenKind::End => "End",
+    }
+}
+
+pub fn word_name(word: Word) -> &'static str {
+    match word {
+        Word::IdType => "IdType",
+        Word::Type => "Type",
+        Word::Datatype => "Datatype",
+        Word::Crdt => "Crdt",
+        Word::Query => "Query",
+        Word::Invariant => "Invariant",
+        Word::Proc => "Proc",
+        Word::Var => "Var",
+        Word::Atomic => "Atomic",
+        Word::If => "If",
+        Word::Else => "Else",
+        Word::Match => "Match",
+        Word::Assert => "Assert",
+        Word::Return => "Return",
+        Word::New => "New",
+        Word::Forall => "Forall",
+        Word::Exists => "Exists",
+        Word::True => "True",
+        Word::False => "False",
+        Word::None => "None",
+        Word::Some => "Some",
+        Word::Call => "Call",
+        Word::Invocation => "Invocation",
+        Word::Visible => "Visible",
+        Word::Before => "Before",
+        Word::Same => "Same",
+        Word::Op => "Op",
+        Word::Origin => "Origin",
+        Word::Info => "Info",
+        Word::Result => "Result",
+        Word::Unreturned => "Unreturned",
+        Word::Tx => "Tx",
+        Word::Returned => "Returned",
+        Word::Bool => "Bool",
+        Word::Int => "Int",
+        Word::String => "String",
+        Word::Maybe => "Maybe",
+        Word::SetAw => "SetAw",
+        Word::SetRw => "SetRw",
+        Word::Reg => "Reg",
+        Word::MvReg => "MvReg",
+        Word::Counter => "Counter",
+        Word::MapUw => "MapUw",
+        Word::MapDw => "MapDw",
+        Word::Requires => "Requires",
+        Word::Abort => "Abort",
+    }
+}
+
+pub fn symbol_name(symbol: Symbol) -> &'static str {
+    match symbol {
+        Symbol::OpenBrace => "OpenBrace",
+        Symbol::CloseBrace => "CloseBrace",
+        Symbol::OpenParen => "OpenParen",
+        Symbol::CloseParen => "CloseParen",
+        Symbol::OpenBracket => "OpenBracket",
+        Symbol::CloseBracket => "CloseBracket",
+        Symbol::Comma => "Comma",
+        Symbol::Semicolon => "Semicolon",
+        Symbol::Colon => "Colon",
+        Symbol::DoubleColon => "DoubleColon",
+        Symbol::Dot => "Dot",
+        Symbol::Assign => "Assign",
+        Symbol::Equal => "Equal",
+        Symbol::NotEqual => "NotEqual",
+        Symbol::Less => "Less",
+        Symbol::AtMost => "AtMost",
+        Symbol::Greater => "Greater",
+        Symbol::AtLeast => "AtLeast",
+        Symbol::Implies => "Implies",
+        Symbol::Arrow => "Arrow",
+        Symbol::And => "And",
+        Symbol::Or => "Or",
+        Symbol::Not => "Not",
+        Symbol::Plus => "Plus",
+        Symbol::Minus => "Minus",
+        Symbol::Bar => "Bar",
+    }
+}
