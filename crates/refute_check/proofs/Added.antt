@@ -1,6 +1,6 @@
 -- The additions for the children, made one after another.
 use Rattle.std.proofs.Common.{◌≡◌, ◌≤◌, ℕ, zero, suc, ◌+◌, length, take, List, [], ◌∷◌, ◌++◌, map, refl, ap, sym, ◌∙◌, arith}
-use Rattle.std.proofs.lemmas.List.{map_push}
+use Rattle.std.proofs.lemmas.List.{map_push, take_all}
 use Rattle.rp_logic.specs.declared.term.Term.{Term}
 use Rattle.rp_logic.specs.declared.formula.Fml.{Fml}
 use Rattle.rp_logic.specs.Terms.{Tm, Sel, no_tm, also_tm}
@@ -10,7 +10,7 @@ use Rattle.refute_defs.specs.Branches.{formula_alone}
 use Rattle.refute_defs.specs.Parts.{selections, built_with}
 use Rattle.refute_defs.specs.Children.{child_for_each, child_for_each_con}
 use Rattle.refute_check.specs.declared.additions.Addition.{Addition}
-use Rattle.refute_check.specs.Added.{addition_view}
+use Rattle.refute_check.specs.means.Added.{addition_view}
 
 pub children_of_parts : (fs : List Fml) → child_for_each (formulas_view fs) ≡ map
     (λ f. formula_alone (formula_view f)) fs
@@ -42,16 +42,10 @@ one_selection_more con n t us u h e =
     ap tms_of (map_push term_view us u ∙ ap (λ x. map term_view us ++ x ∷ []) e)
     ∙ selection_last con 0 n n t (map term_view us) (omega arith) h
 
-all_taken : {A : Type 0} (n : ℕ) (xs : List A) → length xs ≤ n → take n xs ≡ xs
-all_taken zero [] h = refl
-all_taken zero (x ∷ xs) h = absurd (omega (arith, h))
-all_taken (suc n) [] h = refl
-all_taken (suc n) (x ∷ xs) h = ap (λ ys. x ∷ ys) (all_taken n xs (omega arith))
-
 pub each_part : (fs : List Fml) (adds : List Addition) (n : ℕ) → length fs ≤ n
     → map addition_view adds ≡ map (λ f. formula_alone (formula_view f)) (take n fs)
     → map addition_view adds ≡ child_for_each (formulas_view fs)
-each_part fs adds n h e = e ∙ ap (map (λ f. formula_alone (formula_view f))) (all_taken n fs h)
+each_part fs adds n h e = e ∙ ap (map (λ f. formula_alone (formula_view f))) (take_all n fs h)
     ∙ sym (children_of_parts fs)
 
 pub each_con : (S : Signature) (t : Tm) (cons : List ℕ) (adds : List Addition) (n : ℕ)
@@ -59,5 +53,5 @@ pub each_con : (S : Signature) (t : Tm) (cons : List ℕ) (adds : List Addition)
     → map addition_view adds ≡ map (λ con. formula_alone (built_with S t con)) (take n cons)
     → map addition_view adds ≡ child_for_each_con S t cons
 each_con S t cons adds n h e = e
-    ∙ ap (map (λ con. formula_alone (built_with S t con))) (all_taken n cons h)
+    ∙ ap (map (λ con. formula_alone (built_with S t con))) (take_all n cons h)
     ∙ sym (children_of_cons S t cons)

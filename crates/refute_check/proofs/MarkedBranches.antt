@@ -7,8 +7,8 @@ use Rattle.refute_defs.specs.Branches.{root}
 use Rattle.refute_defs.specs.Views.{given_view}
 use Rattle.refute_check.specs.declared.branch.OpenBranch.{OpenBranch}
 use Rattle.refute_check.specs.declared.marks.Mark.{Mark}
-use Rattle.refute_check.specs.Lent.{branch_view}
-use Rattle.refute_check.specs.Marks.{AreMarks, dropped, with_formula}
+use Rattle.refute_check.specs.means.Lent.{branch_view}
+use Rattle.refute_check.specs.means.Marks.{AreMarks, dropped, with_formula}
 use Rattle.refute_check.proofs.Marking.{marks_added, marks_dropped}
 
 last_one : (fs : List Fml) (f g : Fml) → slice_get (fs ++ f ∷ []) (length fs) ≡ Some g → f ≡ g

@@ -4,9 +4,9 @@ use Rattle.std.proofs.lemmas.Bool.{lt-ltb, le-ltb, le-leb, leb-true, leb-false, 
 use Rattle.std.proofs.lemmas.List.{reverse-append, length-append, length-take-le, take_all, take-take, take-append-le}
 use Rattle.rp_logic.specs.Terms.{Tm, Var, Const, Fn, Int, Str, Con, Sel, Plus, Tms, no_tm, also_tm, At, Equal, Le, Rel}
 use Rattle.rp_logic.specs.Formulas.{Fm, And, Or, All, Ex, Lit, Fms, no_fm, also_fm}
-use Rattle.refute_defs.specs.Constants.{lacks, all_lack, atom_lacks, formula_lacks, formulas_lack, each_lacks}
+use Rattle.rp_logic.specs.Constants.{lacks, all_lack, atom_lacks, formula_lacks, formulas_lack, each_lacks}
 use Rattle.refute_check.specs.declared.marks.Mark.{Mark}
-use Rattle.refute_check.specs.Marks.{is_marked, stands_before, Descend, AreMarks, is_late, dropped, with_constant, with_term, with_terms, with_atom, with_formula, with_formulas}
+use Rattle.refute_check.specs.means.Marks.{is_marked, stands_before, Descend, AreMarks, is_late, dropped, with_constant, with_term, with_terms, with_atom, with_formula, with_formulas}
 
 -- # Tests
 

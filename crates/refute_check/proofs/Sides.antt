@@ -11,7 +11,7 @@ use Rattle.refute_defs.specs.NewTerms.{is_term}
 use Rattle.refute_defs.specs.Parts.{are_some, args, with_args, equal}
 use Rattle.refute_defs.specs.Shapes.{only, only_two}
 use Rattle.refute_defs.specs.Children.{other_sides, term_replaced}
-use Rattle.refute_check.specs.Replaced.{side_at, replaced_args, replaced_term}
+use Rattle.refute_check.specs.means.Replaced.{side_at, replaced_args, replaced_term}
 
 -- # As many places as terms
 

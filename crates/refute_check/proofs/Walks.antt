@@ -16,10 +16,10 @@ use Rattle.refute_check.specs.declared.branch.OpenBranch.{OpenBranch}
 use Rattle.refute_check.specs.declared.walk.Waiting.{Waiting}
 use Rattle.refute_check.specs.declared.error.CheckErr.{CheckErr}
 use Rattle.refute_check.specs.declared.error.CheckErr.TheVariants as err
-use Rattle.refute_check.specs.Added.{addition_view}
+use Rattle.refute_check.specs.means.Added.{addition_view}
 use Rattle.refute_check.specs.Answers.{IsVerdict, IfBad}
-use Rattle.refute_check.specs.Lent.{branch_view}
-use Rattle.refute_check.specs.Waits.{waiting_branch, waiting_branches, open_branches, AreNested, AreWithin, wait, node_children, node_rule}
+use Rattle.refute_check.specs.means.Lent.{branch_view}
+use Rattle.refute_check.specs.means.Waits.{waiting_branch, waiting_branches, open_branches, AreNested, AreWithin, wait, node_children, node_rule}
 
 -- # Lists
 

@@ -7,8 +7,8 @@ ghost use Rattle.rp_logic.specs.Instance.{instance};
 ghost use Rattle.rp_logic.specs.Views.{term_view, terms_view, atom_view, formula_view, formulas_view};
 ghost use Rattle.refute_defs.specs.Children as spec;
 ghost use Rattle.refute_defs.specs.Parts as parts_spec;
-ghost use Rattle.refute_check.specs.Conclusions.{concluded, cut_children, bounds_formula};
-ghost use Rattle.refute_check.specs.Added.{addition_view};
+ghost use Rattle.refute_check.specs.means.Conclusions.{concluded, cut_children, bounds_formula};
+ghost use Rattle.refute_check.specs.means.Added.{addition_view};
 
 use crate::conclusion::Conclusion;
 use crate::form::Order;

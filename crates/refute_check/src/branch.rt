@@ -3,8 +3,8 @@ ghost use Rattle.std.specs.Prelude.{◌≡◌, ◌∷◌, [], ◌++◌, OnOk, op
 ghost use Rattle.rp_logic.specs.Views.{formula_view, formulas_view, atom_view};
 ghost use Rattle.refute_defs.specs.Branches.{formula_at as spec_formula_at};
 ghost use Rattle.refute_defs.specs.Children as spec;
-ghost use Rattle.refute_check.specs.Lent.{branch_view, sides_view, order_view};
-ghost use Rattle.refute_check.specs.Marks.{HasMarks};
+ghost use Rattle.refute_check.specs.means.Lent.{branch_view, sides_view, order_view};
+ghost use Rattle.refute_check.specs.means.Marks.{HasMarks};
 
 use crate::form::{
     Order, Sides, conjuncts, denied_order, disjuncts, equality, existential, literal, stated_order,

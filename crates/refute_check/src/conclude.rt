@@ -3,10 +3,10 @@ ghost use Rattle.std.specs.Prelude.{◌≡◌, ◌≢◌, IfOk, IsErrOf, Some, N
 ghost use Rattle.rp_logic.specs.SigView.{sig_view};
 ghost use Rattle.refute_defs.specs.Views.{use_view};
 ghost use Rattle.refute_defs.specs.Children as spec;
-ghost use Rattle.refute_check.specs.Lent.{branch_view};
-ghost use Rattle.refute_check.specs.Conclusions.{concluded};
-ghost use Rattle.refute_check.specs.Added.{addition_view};
-ghost use Rattle.refute_check.specs.Marks.{HasMarks};
+ghost use Rattle.refute_check.specs.means.Lent.{branch_view};
+ghost use Rattle.refute_check.specs.means.Conclusions.{concluded};
+ghost use Rattle.refute_check.specs.means.Added.{addition_view};
+ghost use Rattle.refute_check.specs.means.Marks.{HasMarks};
 
 use crate::additions::{Addition, additions, one_child};
 use crate::branch::OpenBranch;

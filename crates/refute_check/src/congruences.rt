@@ -5,8 +5,8 @@ ghost use Rattle.rp_logic.specs.SigView.{sig_view};
 ghost use Rattle.rp_logic.specs.Views.{term_view, terms_view, atom_view, formula_view};
 ghost use Rattle.refute_defs.specs.Views.{use_view};
 ghost use Rattle.refute_defs.specs.Children as spec;
-ghost use Rattle.refute_check.specs.Lent.{branch_view};
-ghost use Rattle.refute_check.specs.Replaced.{side_at, replaced_args, replaced_term, replaced_atom};
+ghost use Rattle.refute_check.specs.means.Lent.{branch_view};
+ghost use Rattle.refute_check.specs.means.Replaced.{side_at, replaced_args, replaced_term, replaced_atom};
 
 use crate::branch::{OpenBranch, equality_at, literal_at};
 use crate::same::is_same;

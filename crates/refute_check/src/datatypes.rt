@@ -6,8 +6,8 @@ ghost use Rattle.rp_logic.specs.Views.{term_view, terms_view};
 ghost use Rattle.refute_defs.specs.Views.{use_view};
 ghost use Rattle.refute_defs.specs.Parts.{nth_tm};
 ghost use Rattle.refute_defs.specs.Children as spec;
-ghost use Rattle.refute_check.specs.Lent.{branch_view, sides_view, made_view};
-ghost use Rattle.refute_check.specs.Conclusions.{concluded};
+ghost use Rattle.refute_check.specs.means.Lent.{branch_view, sides_view, made_view};
+ghost use Rattle.refute_check.specs.means.Conclusions.{concluded};
 
 use crate::branch::{OpenBranch, equality_at};
 use crate::conclusion::Conclusion;

@@ -3,8 +3,8 @@ ghost use Rattle.std.specs.Prelude.{◌≡◌, option_map};
 ghost use Rattle.rp_logic.specs.SigView.{sig_view};
 ghost use Rattle.refute_defs.specs.Views.{use_view};
 ghost use Rattle.refute_defs.specs.Children as spec;
-ghost use Rattle.refute_check.specs.Lent.{branch_view};
-ghost use Rattle.refute_check.specs.Conclusions.{concluded};
+ghost use Rattle.refute_check.specs.means.Lent.{branch_view};
+ghost use Rattle.refute_check.specs.means.Conclusions.{concluded};
 
 use crate::branch::{OpenBranch, equality_at};
 use crate::conclusion::Conclusion;

@@ -2,7 +2,7 @@
 ghost use Rattle.std.specs.Prelude.{◌≡◌, option_map, true, false};
 ghost use Rattle.rp_logic.specs.Views.{formula_view, formulas_view, atom_view};
 ghost use Rattle.refute_defs.specs.Children as spec;
-ghost use Rattle.refute_check.specs.Lent.{sides_view, order_view};
+ghost use Rattle.refute_check.specs.means.Lent.{sides_view, order_view};
 
 use rp_logic::{Atom, Fml, Term};
 use rp_value::List;

@@ -24,4 +24,3 @@ mod walk;
 
 pub use checker::{are_well_sorted, check};
 pub use error::CheckErr;
-

@@ -2,7 +2,7 @@
 //! the branch.
 ghost use Rattle.std.specs.Prelude.{◌≡◌, OnOk, reverse};
 ghost use Rattle.rp_logic.specs.Views.{term_view, terms_view, atom_view, formula_view, formulas_view};
-ghost use Rattle.refute_check.specs.Marks as spec;
+ghost use Rattle.refute_check.specs.means.Marks as spec;
 
 use rp_logic::{Atom, Fml, Term};
 use rp_value::{List, Memory};

@@ -5,8 +5,8 @@ ghost use Rattle.rp_logic.specs.Terms as tm;
 ghost use Rattle.rp_logic.specs.Views.{term_view};
 ghost use Rattle.refute_defs.specs.Views.{use_view};
 ghost use Rattle.refute_defs.specs.Children as spec;
-ghost use Rattle.refute_check.specs.Lent.{branch_view, order_view};
-ghost use Rattle.refute_check.specs.Conclusions.{concluded, sum_after, bounds_formula};
+ghost use Rattle.refute_check.specs.means.Lent.{branch_view, order_view};
+ghost use Rattle.refute_check.specs.means.Conclusions.{concluded, sum_after, bounds_formula};
 
 use crate::branch::{OpenBranch, denied_order_at, equality_at, order_at};
 use crate::conclusion::Conclusion;

@@ -6,8 +6,8 @@ ghost use Rattle.rp_logic.specs.Views.{atom_view, formula_view, formulas_view};
 ghost use Rattle.refute_defs.specs.Views.{use_view};
 ghost use Rattle.refute_defs.specs.Parts.{nth_fm};
 ghost use Rattle.refute_defs.specs.Children as spec;
-ghost use Rattle.refute_check.specs.Lent.{branch_view};
-ghost use Rattle.refute_check.specs.Conclusions.{concluded};
+ghost use Rattle.refute_check.specs.means.Lent.{branch_view};
+ghost use Rattle.refute_check.specs.means.Conclusions.{concluded};
 
 use crate::branch::{OpenBranch, conjuncts_at, disjuncts_at, formula_at};
 use crate::conclusion::Conclusion;

@@ -5,9 +5,9 @@ ghost use Rattle.rp_logic.specs.Views.{term_view};
 ghost use Rattle.refute_defs.specs.Views.{use_view};
 ghost use Rattle.refute_defs.specs.Children as spec;
 ghost use Rattle.refute_defs.specs.Constants.{is_new as spec_is_new};
-ghost use Rattle.refute_check.specs.Lent.{branch_view};
-ghost use Rattle.refute_check.specs.Conclusions.{concluded};
-ghost use Rattle.refute_check.specs.Marks.{HasMarks};
+ghost use Rattle.refute_check.specs.means.Lent.{branch_view};
+ghost use Rattle.refute_check.specs.means.Conclusions.{concluded};
+ghost use Rattle.refute_check.specs.means.Marks.{HasMarks};
 
 use crate::branch::{OpenBranch, existential_at, universal_at};
 use crate::conclusion::Conclusion;

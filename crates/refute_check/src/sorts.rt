@@ -5,7 +5,7 @@ ghost use Rattle.rp_logic.specs.Views.{term_view, atom_view};
 ghost use Rattle.rp_logic.specs.SigView.{sig_view};
 ghost use Rattle.rp_logic.specs.Sorted.{has_sort as spec_has_sort};
 ghost use Rattle.refute_defs.specs.NewTerms as spec;
-ghost use Rattle.refute_check.specs.Lent.{branch_view};
+ghost use Rattle.refute_check.specs.means.Lent.{branch_view};
 
 use crate::branch::OpenBranch;
 use rp_logic::{Atom, Scope, Sig, Sort, Term, has_sort, head_sort, is_sorted_atom};

@@ -6,11 +6,11 @@ ghost use Rattle.refute_defs.specs.Branches.{root};
 ghost use Rattle.refute_defs.specs.Uses.{Nd};
 ghost use Rattle.refute_defs.specs.Verdicts.{Bad, verdict, verdict_from};
 ghost use Rattle.refute_defs.specs.Views.{node_view, given_view};
-ghost use Rattle.refute_check.specs.Lent.{branch_view};
-ghost use Rattle.refute_check.specs.Added.{addition_view};
+ghost use Rattle.refute_check.specs.means.Lent.{branch_view};
+ghost use Rattle.refute_check.specs.means.Added.{addition_view};
 ghost use Rattle.refute_check.specs.Answers.{IsVerdict, IfBad};
-ghost use Rattle.refute_check.specs.Marks.{HasMarks};
-ghost use Rattle.refute_check.specs.Waits.{waiting_branch, waiting_branches, open_branches, AreWithin, wait, node_children, node_rule};
+ghost use Rattle.refute_check.specs.means.Marks.{HasMarks};
+ghost use Rattle.refute_check.specs.means.Waits.{waiting_branch, waiting_branches, open_branches, AreWithin, wait, node_children, node_rule};
 
 use crate::additions::Addition;
 use crate::branch::{OpenBranch, add_formula};

@@ -1,5 +1,6 @@
 -- What follows where formulas are refuted.
 use Rattle.std.proofs.Common.{◌≡◌, ℕ, zero, suc, ◌<◌, List, [], ◌∷◌, ◌++◌, Bool, true, false, refl, slice_get, get_or, Some, ◌⊎◌, inl, inr, ⊎_elim, arith, subst, sym, ◌∙◌, eq-or-lt_of_le, le_of_suc-le-suc, ltb-true}
+use Rattle.std.proofs.lemmas.Bool.{and_parts}
 use Rattle.rp_logic.specs.declared.sort.Sort.TheVariants as sort
 use Rattle.rp_logic.specs.Terms.{At}
 use Rattle.rp_logic.specs.Formulas.{Fm, Fms, Or, Ex, Lit, no_fm, also_fm}
@@ -8,7 +9,6 @@ use Rattle.rp_logic.specs.Elements.{Elem, Point, Whole, Text, Made}
 use Rattle.rp_logic.specs.Structures.{Structure, is_elem, IsStructure}
 use Rattle.rp_logic.specs.Truth.{Meaning, meaning, atom_truth, Holds, AllTrue, IsRefuted}
 use Rattle.rp_logic.specs.Dual.{dual}
-use Rattle.rp_logic.proofs.InstanceLaws.{and_both}
 use Rattle.rp_logic.proofs.DualLaws.{stable, dual_law}
 use Rattle.rp_logic.proofs.SortLaws.{no}
 use Rattle.refute_defs.specs.Conclusions.{IsDecided, AreDecided, SomeHolds, size_of, IsDecidedOver, HasWitness}
@@ -72,11 +72,11 @@ plain_elem : (S : Signature) → IsKept S → (sizes : List ℕ) (s : ℕ) (v : 
     → slice_get S.sorts s ≡ Some sort.Plain → is_elem S sizes s v ≡ true
     → (n : ℕ) × (n < get_or sizes s 0) × (v ≡ Point n)
 plain_elem S i sizes s (Point n) e h =
-    (n, ltb-true n (get_or sizes s 0) (and_both _ _ h).1, refl)
+    (n, ltb-true n (get_or sizes s 0) (and_parts _ _ h).1, refl)
 plain_elem S i sizes s (Whole n) e h = no (subst (λ o. is_int o ≡ true) e h)
 plain_elem S i sizes s (Text bytes) e h = no (subst (λ o. is_str o ≡ true) e h)
 plain_elem S i sizes s (Made c xs) e h =
-    let d = i.of_datatype c s (and_both _ _ h).0 in
+    let d = i.of_datatype c s (and_parts _ _ h).0 in
     absurd (differ (sym e ∙ d.1))
   where
     differ : {cons : List ℕ} → Some sort.Plain ≡ Some (sort.Datatype cons) → ⊥

@@ -1,6 +1,7 @@
 -- Formulas, terms and sorts by their forms.
 use Rattle.std.proofs.Common.{◌≡◌, ℕ, ℤ, List, [], Bool, true, false, not, Option, Some, None, refl, ap, sym, subst, true≢false, slice_get}
 use Rattle.std.specs.Prelude.{is_some}
+use Rattle.std.proofs.lemmas.Option.{same_Some}
 use Rattle.rp_logic.specs.declared.sort.Sort.{Sort}
 use Rattle.rp_logic.specs.declared.sort.Sort.TheVariants as sort
 use Rattle.rp_logic.specs.Terms.{Tm, Tms, Var, Const, Fn, Int, Str, Con, Sel, Plus, At, Equal, Le, Rel}
@@ -12,14 +13,13 @@ use Rattle.refute_defs.specs.Parts.{equal, at_most}
 use Rattle.refute_defs.specs.Branches.{Branch}
 use Rattle.refute_defs.specs.Children.{conjuncts, disjuncts, universal, existential, literal, equality, order, constant, built, are_opposite}
 use Rattle.refute_defs.specs.NewTerms.{HasSort, IsTerm, IsNumberTerm, sort_of, is_term, is_number, declared_sort, datatype}
-use Rattle.refute_defs.proofs.EachSorted.{some_is}
 use Rattle.refute_defs.proofs.Options.{tested, test_is, then_is, and_then, some_of}
 use Rattle.refute_defs.proofs.SameTerms.{at_is}
 
 -- # Formulas
 
 pub is_and : (f : Fm) (fs : Fms) → conjuncts f ≡ Some fs → f ≡ And fs
-is_and (And gs) fs e = ap And (some_is gs fs e)
+is_and (And gs) fs e = ap And (same_Some gs fs e)
 is_and (Or gs) fs e = absurd cc
 is_and (All s g) fs e = absurd cc
 is_and (Ex s g) fs e = absurd cc
@@ -27,7 +27,7 @@ is_and (Lit b a) fs e = absurd cc
 
 pub is_or : (f : Fm) (fs : Fms) → disjuncts f ≡ Some fs → f ≡ Or fs
 is_or (And gs) fs e = absurd cc
-is_or (Or gs) fs e = ap Or (some_is gs fs e)
+is_or (Or gs) fs e = ap Or (same_Some gs fs e)
 is_or (All s g) fs e = absurd cc
 is_or (Ex s g) fs e = absurd cc
 is_or (Lit b a) fs e = absurd cc
@@ -35,7 +35,7 @@ is_or (Lit b a) fs e = absurd cc
 pub is_all : (f : Fm) (x : ℕ × Fm) → universal f ≡ Some x → f ≡ All x.0 x.1
 is_all (And gs) x e = absurd cc
 is_all (Or gs) x e = absurd cc
-is_all (All s g) x e = ap (λ y. All y.0 y.1) (some_is (s, g) x e)
+is_all (All s g) x e = ap (λ y. All y.0 y.1) (same_Some (s, g) x e)
 is_all (Ex s g) x e = absurd cc
 is_all (Lit b a) x e = absurd cc
 
@@ -43,7 +43,7 @@ pub is_ex : (f : Fm) (x : ℕ × Fm) → existential f ≡ Some x → f ≡ Ex x
 is_ex (And gs) x e = absurd cc
 is_ex (Or gs) x e = absurd cc
 is_ex (All s g) x e = absurd cc
-is_ex (Ex s g) x e = ap (λ y. Ex y.0 y.1) (some_is (s, g) x e)
+is_ex (Ex s g) x e = ap (λ y. Ex y.0 y.1) (same_Some (s, g) x e)
 is_ex (Lit b a) x e = absurd cc
 
 pub is_lit : (f : Fm) (x : Bool × At) → literal f ≡ Some x → f ≡ Lit x.0 x.1
@@ -51,14 +51,14 @@ is_lit (And gs) x e = absurd cc
 is_lit (Or gs) x e = absurd cc
 is_lit (All s g) x e = absurd cc
 is_lit (Ex s g) x e = absurd cc
-is_lit (Lit b a) x e = ap (λ y. Lit y.0 y.1) (some_is (b, a) x e)
+is_lit (Lit b a) x e = ap (λ y. Lit y.0 y.1) (same_Some (b, a) x e)
 
 pub is_equal : (f : Fm) (x : Tm × Tm) → equality f ≡ Some x → f ≡ equal x.0 x.1
 is_equal (And gs) x e = absurd cc
 is_equal (Or gs) x e = absurd cc
 is_equal (All s g) x e = absurd cc
 is_equal (Ex s g) x e = absurd cc
-is_equal (Lit true (Equal a b)) x e = ap (λ y. equal y.0 y.1) (some_is (a, b) x e)
+is_equal (Lit true (Equal a b)) x e = ap (λ y. equal y.0 y.1) (same_Some (a, b) x e)
 is_equal (Lit true (Le a b k)) x e = absurd cc
 is_equal (Lit true (Rel r ts)) x e = absurd cc
 is_equal (Lit false a) x e = absurd cc
@@ -69,7 +69,7 @@ is_order (Or gs) x e = absurd cc
 is_order (All s g) x e = absurd cc
 is_order (Ex s g) x e = absurd cc
 is_order (Lit true (Equal a b)) x e = absurd cc
-is_order (Lit true (Le a b k)) x e = ap (λ y. at_most y.0 y.1 y.2) (some_is (a, b, k) x e)
+is_order (Lit true (Le a b k)) x e = ap (λ y. at_most y.0 y.1 y.2) (same_Some (a, b, k) x e)
 is_order (Lit true (Rel r ts)) x e = absurd cc
 is_order (Lit false a) x e = absurd cc
 
@@ -81,7 +81,7 @@ is_no_order (All s g) x e = absurd cc
 is_no_order (Ex s g) x e = absurd cc
 is_no_order (Lit false (Equal a b)) x e = absurd cc
 is_no_order (Lit false (Le a b k)) x e =
-    ap (λ y. Lit false (Le y.0 y.1 y.2)) (some_is (a, b, k) x e)
+    ap (λ y. Lit false (Le y.0 y.1 y.2)) (same_Some (a, b, k) x e)
 is_no_order (Lit false (Rel r ts)) x e = absurd cc
 is_no_order (Lit true a) x e = absurd cc
 
@@ -108,7 +108,7 @@ opposite (Ex s f) g e = absurd (true≢false (sym e))
 
 pub is_const : (t : Tm) (c : ℕ) → constant t ≡ Some c → t ≡ Const c
 is_const (Var n) c e = absurd cc
-is_const (Const d) c e = ap Const (some_is d c e)
+is_const (Const d) c e = ap Const (same_Some d c e)
 is_const (Fn f ts) c e = absurd cc
 is_const (Int n) c e = absurd cc
 is_const (Str b) c e = absurd cc
@@ -122,7 +122,7 @@ is_con (Const d) x e = absurd cc
 is_con (Fn f ts) x e = absurd cc
 is_con (Int n) x e = absurd cc
 is_con (Str b) x e = absurd cc
-is_con (Con d ts) x e = ap (λ y. Con y.0 y.1) (some_is (d, ts) x e)
+is_con (Con d ts) x e = ap (λ y. Con y.0 y.1) (same_Some (d, ts) x e)
 is_con (Sel d i t) x e = absurd cc
 is_con (Plus t n) x e = absurd cc
 
@@ -159,7 +159,7 @@ is_declared S one b t s x h e = then_is _ _ _ _ (is_sort_of S one b t s h) e
 
 pub is_data : (o : Option Sort) (cons : List ℕ) → datatype o ≡ Some cons
     → o ≡ Some (sort.Datatype cons)
-is_data (Some (sort.Datatype ds)) cons e = ap (λ x. Some (sort.Datatype x)) (some_is ds cons e)
+is_data (Some (sort.Datatype ds)) cons e = ap (λ x. Some (sort.Datatype x)) (same_Some ds cons e)
 is_data (Some sort.Plain) cons e = absurd cc
 is_data (Some sort.Int) cons e = absurd cc
 is_data (Some sort.Str) cons e = absurd cc

@@ -4,11 +4,12 @@ use Rattle.std.specs.Prelude.{int_lt}
 use Rattle.std.specs.Ordering.{int_eq}
 use Rattle.std.specs.Str.{bytes_eq}
 use Rattle.std.proofs.lemmas.Int.{ints}
+use Rattle.std.proofs.lemmas.Bool.{and_from}
 use Rattle.rp_logic.specs.declared.sort.Sort.TheVariants as sort
 use Rattle.rp_logic.specs.Terms.{Tm, Tms, Int, Str, Con, Sel, Plus, no_tm, also_tm, At, Le}
 use Rattle.rp_logic.specs.Formulas.{And, Or, All, Ex, Lit}
 use Rattle.rp_logic.specs.Signatures.{Signature}
-use Rattle.rp_logic.proofs.SortLaws.{HasOneIntAndStr, atom_exact, both}
+use Rattle.rp_logic.proofs.SortLaws.{HasOneIntAndStr, atom_exact}
 use Rattle.refute_defs.specs.Uses.{Use}
 use Rattle.refute_defs.specs.Parts.{args, atom_args, equal, at_most}
 use Rattle.refute_defs.specs.Additions.{Addition, one_child}
@@ -118,7 +119,7 @@ module _ (S : Signature) (one : HasOneIntAndStr S) (b : Branch) (u : Use) (adds 
       given _ _ (named _ _ _ _ _ _ n) e (map_is one_child _ _ (then_is _ _ (s, f) _ (then_is _ _ (All s f) (s, f) at refl) (test_is _ _ _ h refl)))
   gives (rule.new_constant p s c f n at l lack e) =
       given _ _ (named _ _ _ _ _ _ n) e
-      (then_is _ _ (s, f) _ (then_is _ _ (Ex s f) (s, f) at refl) (test_is _ _ _ (both _ _ (at_most_is (length S.consts) c l) lack) refl))
+      (then_is _ _ (s, f) _ (then_is _ _ (Ex s f) (s, f) at refl) (test_is _ _ _ (and_from _ _ (at_most_is (length S.consts) c l) lack) refl))
   gives (rule.cut a n h e) =
       given _ _ (named _ _ _ _ _ _ n) e (test_is _ _ _ ((atom_exact a S one b.added []).1 h) refl)
   gives (rule.clash p q sign a n at bt e) =
@@ -134,7 +135,7 @@ module _ (S : Signature) (one : HasOneIntAndStr S) (b : Branch) (u : Use) (adds 
       (then_is _ _ (y, z) _ (equality_found b q y z bt) (test_is _ _ _ (tm_itself y) refl))))
   gives (rule.congruent_term t us n h some q e) =
       given _ _ (named _ _ _ _ _ _ n) e
-      (map_is one_child _ _ (test_is _ _ _ (both _ _ (form.is_a_term S one b t h) some) (map_is _ _ us (sides_found b u.places (args t) us q))))
+      (map_is one_child _ _ (test_is _ _ _ (and_from _ _ (form.is_a_term S one b t h) some) (map_is _ _ us (sides_found b u.places (args t) us q))))
   gives (rule.congruent_literal p ps sign a us n at q e) =
       given _ _ (named _ _ _ _ _ _ n) e
       (map_is one_child _ _ (then_is _ _ (sign, a) _ (then_is _ _ (Lit sign a) _ at refl) (map_is _ _ us (sides_found b ps (atom_args a) us q))))
@@ -168,7 +169,7 @@ module _ (S : Signature) (one : HasOneIntAndStr S) (b : Branch) (u : Use) (adds 
   gives (rule.equals_by_order p q x y n at bt e) =
       given _ _ (named _ _ _ _ _ _ n) e
       (map_is one_child _ _ (then_is _ _ (x, y, pos 0) _ (order_found b p x y (pos 0) at)
-      (then_is _ _ (y, x, pos 0) _ (order_found b q y x (pos 0) bt) (test_is _ _ _ (both _ _ (both _ _ refl (tm_itself x)) (tm_itself y)) refl))))
+      (then_is _ _ (y, x, pos 0) _ (order_found b q y x (pos 0) bt) (test_is _ _ _ (and_from _ _ (and_from _ _ refl (tm_itself x)) (tm_itself y)) refl))))
   gives (rule.sum_above t k n h e) =
       given _ _ (named _ _ _ _ _ _ n) e (map_is one_child _ _ (test_is _ _ _ (form.is_a_term S one b (Plus t k) h) refl))
   gives (rule.sum_below t k n h v e) =
@@ -177,4 +178,4 @@ module _ (S : Signature) (one : HasOneIntAndStr S) (b : Branch) (u : Use) (adds 
   gives (rule.numbers k l n h i v e) =
       given _ _ (named _ _ _ _ _ _ n) e
       (map_is one_child _ _
-      (test_is _ _ _ (both _ _ (form.is_a_term S one b (Int k) h) (form.is_a_term S one b (Int l) i)) (bounded (Int k) (Int l) (k -ℤ l) v)))
+      (test_is _ _ _ (and_from _ _ (form.is_a_term S one b (Int k) h) (form.is_a_term S one b (Int l) i)) (bounded (Int k) (Int l) (k -ℤ l) v)))

@@ -4,10 +4,11 @@ use Rattle.std.specs.Prelude.{int_lt}
 use Rattle.std.specs.Ordering.{int_eq}
 use Rattle.std.specs.Str.{bytes_eq}
 use Rattle.std.proofs.lemmas.Int.{ints}
+use Rattle.std.proofs.lemmas.Bool.{and_parts}
+use Rattle.std.proofs.lemmas.Option.{same_Some}
 use Rattle.rp_logic.specs.Terms.{Tm, Tms, Int, Str, Con, Sel, Plus, no_tm, also_tm, At}
 use Rattle.rp_logic.specs.Formulas.{Fm, Lit}
 use Rattle.rp_logic.specs.Signatures.{Signature}
-use Rattle.rp_logic.proofs.InstanceLaws.{and_both}
 use Rattle.rp_logic.proofs.SortLaws.{HasOneIntAndStr, atom_exact}
 use Rattle.refute_defs.specs.Uses.{Use}
 use Rattle.refute_defs.specs.Parts.{nth_tm, args, atom_args, atom_with, equal, at_most}
@@ -19,7 +20,6 @@ use Rattle.refute_defs.specs.NewTerms.{IsTerm, declared_sort}
 use Rattle.refute_defs.specs.Children as child
 use Rattle.refute_defs.specs.Rules.{Names, Stands, Equalities, Chain, Step}
 use Rattle.refute_defs.specs.Rules as rule
-use Rattle.refute_defs.proofs.EachSorted.{some_is}
 use Rattle.refute_defs.proofs.Options.{and_then, mapped, tested, either}
 use Rattle.refute_defs.proofs.SameTerms.{tm_is, int_itself, text_itself, same_int}
 use Rattle.refute_defs.proofs.Named as names
@@ -36,7 +36,7 @@ order_stands : (b : Branch) (p : ℕ) (o : Tm × Tm × ℤ) → order_at true b 
 order_stands b p o h = let a = and_then _ _ _ h in a.1 ∙ ap Some (form.is_order a.0 o a.2)
 
 within_is : (n k : ℤ) → within n ≡ Some k → (fits n ≡ true) × (n ≡ k)
-within_is n k h = let t = tested _ _ _ h in (t.0, some_is n k t.1)
+within_is n k h = let t = tested _ _ _ h in (t.0, same_Some n k t.1)
 
 -- an order whose number is within 128 bits
 bounded : (x y : Tm) (k : ℤ) (f : Fm) → child.at_most_within x y k ≡ Some f
@@ -50,7 +50,7 @@ bounded x y k f h =
 
 sides_stand : (b : Branch) (ps : List ℕ) (ts us : Tms) → other_sides b ps ts ≡ Some us
     → Equalities b ps ts us
-sides_stand b [] no_tm us h = subst (λ x. Equalities b [] no_tm x) (some_is no_tm us h) tt
+sides_stand b [] no_tm us h = subst (λ x. Equalities b [] no_tm x) (same_Some no_tm us h) tt
 sides_stand b [] (also_tm t ts) us h = absurd cc
 sides_stand b (p ∷ ps) no_tm us h = absurd cc
 sides_stand b (p ∷ ps) (also_tm t ts) us h =
@@ -58,7 +58,7 @@ sides_stand b (p ∷ ps) (also_tm t ts) us h =
     let m = mapped _ _ _ a.2 in
     let s = and_then _ _ _ a.1 in
     let q = tested _ _ _ s.2 in
-    let stands : Stands b p (equal t a.0) = equality_stands b p s.0 s.1 ∙ ap Some (ap₂ equal (sym (tm_is t s.0.0 q.0)) (some_is _ _ q.1)) in
+    let stands : Stands b p (equal t a.0) = equality_stands b p s.0 s.1 ∙ ap Some (ap₂ equal (sym (tm_is t s.0.0 q.0)) (same_Some _ _ q.1)) in
     let rest = sides_stand b ps ts m.0 m.1 in
     subst (λ x. Equalities b (p ∷ ps) (also_tm t ts) x) m.2 (stands, rest)
 
@@ -108,7 +108,7 @@ selected_is _ x h = absurd cc
 
 chain_is : (b : Branch) (ps : List ℕ) (a c : Tm) (sum total : ℤ) → chain b ps a c sum ≡ Some total
     → Chain b ps a c sum total
-chain_is b [] a c sum total h = let q = tested _ _ _ h in (tm_is a c q.0, sym (some_is _ _ q.1))
+chain_is b [] a c sum total h = let q = tested _ _ _ h in (tm_is a c q.0, sym (same_Some _ _ q.1))
 chain_is b (p ∷ ps) a c sum total h =
     let x = and_then _ _ _ h in
     let o = and_then _ _ _ x.1 in
@@ -160,7 +160,7 @@ module _ (S : Signature) (one : HasOneIntAndStr S) (b : Branch) (u : Use) (adds 
       let d = and_then _ _ _ c.1 in
       let t = tested _ _ _ c.2 in
       rule.instantiate a.0.0 c.0.0 a.0.1 c.0.1 (names.by_place_and_term u 3 a.0 r a.1) (d.1 ∙ ap Some (form.is_all d.0 c.0 d.2)) t.0
-      (sym m.2 ∙ ap one_child (some_is _ _ (sym t.1)))
+      (sym m.2 ∙ ap one_child (same_Some _ _ (sym t.1)))
 
   new_constant : u.rule ≡ 4 → child.new_constant S b u ≡ Some adds → Step S b u adds
   new_constant r e =
@@ -169,16 +169,16 @@ module _ (S : Signature) (one : HasOneIntAndStr S) (b : Branch) (u : Use) (adds 
       let d = and_then _ _ _ c.2 in
       let g = and_then _ _ _ d.1 in
       let t = tested _ _ _ d.2 in
-      let n = and_both _ _ t.0 in
+      let n = and_parts _ _ t.0 in
       rule.new_constant a.0.0 d.0.0 c.0 d.0.1
       (subst (λ x. Names u 4 (a.0.0 ∷ []) (x ∷ []) [] 0) (form.is_const a.0.1 c.0 c.1) (names.by_place_and_term u 4 a.0 r a.1))
-      (g.1 ∙ ap Some (form.is_ex g.0 d.0 g.2)) (leb-true _ _ n.0) n.1 (sym (some_is _ _ t.1))
+      (g.1 ∙ ap Some (form.is_ex g.0 d.0 g.2)) (leb-true _ _ n.0) n.1 (sym (same_Some _ _ t.1))
 
   cut : u.rule ≡ 5 → child.cut S b u ≡ Some adds → Step S b u adds
   cut r e =
       let a = and_then _ _ _ e in
       let t = tested _ _ _ a.2 in
-      rule.cut a.0 (names.by_atom u 5 a.0 r a.1) ((atom_exact a.0 S one b.added []).0 t.0) (sym (some_is _ _ t.1))
+      rule.cut a.0 (names.by_atom u 5 a.0 r a.1) ((atom_exact a.0 S one b.added []).0 t.0) (sym (same_Some _ _ t.1))
 
   clash : u.rule ≡ 6 → child.clash b u ≡ Some adds → Step S b u adds
   clash r e =
@@ -187,7 +187,7 @@ module _ (S : Signature) (one : HasOneIntAndStr S) (b : Branch) (u : Use) (adds 
       let d = and_then _ _ _ c.2 in
       let t = tested _ _ _ d.2 in
       let o = form.opposite c.0 d.0 t.0 in
-      rule.clash a.0.0 a.0.1 o.0 o.1 (names.by_two_places u 6 a.0 r a.1) (c.1 ∙ ap Some o.2) (d.1 ∙ ap Some o.3) (sym (some_is _ _ t.1))
+      rule.clash a.0.0 a.0.1 o.0 o.1 (names.by_two_places u 6 a.0 r a.1) (c.1 ∙ ap Some o.2) (d.1 ∙ ap Some o.3) (sym (same_Some _ _ t.1))
 
   -- # Equality
 
@@ -196,7 +196,7 @@ module _ (S : Signature) (one : HasOneIntAndStr S) (b : Branch) (u : Use) (adds 
       let m = mapped _ _ _ e in
       let a = and_then _ _ _ m.1 in
       let t = tested _ _ _ a.2 in
-      rule.reflexive a.0 (names.by_term u 7 a.0 r a.1) (form.term_is S b a.0 t.0) (sym m.2 ∙ ap one_child (some_is _ _ (sym t.1)))
+      rule.reflexive a.0 (names.by_term u 7 a.0 r a.1) (form.term_is S b a.0 t.0) (sym m.2 ∙ ap one_child (same_Some _ _ (sym t.1)))
 
   symmetric : u.rule ≡ 8 → child.symmetric b u ≡ Some adds → Step S b u adds
   symmetric r e =
@@ -214,14 +214,14 @@ module _ (S : Signature) (one : HasOneIntAndStr S) (b : Branch) (u : Use) (adds 
       let t = tested _ _ _ d.2 in
       rule.transitive a.0.0 a.0.1 c.0.0 c.0.1 d.0.1 (names.by_two_places u 9 a.0 r a.1) (equality_stands b a.0.0 c.0 c.1)
       (subst (λ x. Stands b a.0.1 (equal x d.0.1)) (sym (tm_is c.0.1 d.0.0 t.0)) (equality_stands b a.0.1 d.0 d.1))
-      (sym m.2 ∙ ap one_child (some_is _ _ (sym t.1)))
+      (sym m.2 ∙ ap one_child (same_Some _ _ (sym t.1)))
 
   congruent_term : u.rule ≡ 10 → child.congruent_term S b u ≡ Some adds → Step S b u adds
   congruent_term r e =
       let m = mapped _ _ _ e in
       let a = and_then _ _ _ m.1 in
       let t = tested _ _ _ a.2 in
-      let n = and_both _ _ t.0 in
+      let n = and_parts _ _ t.0 in
       let s = mapped _ _ _ t.1 in
       rule.congruent_term a.0 s.0 (names.by_term_with_places u 10 a.0 r a.1) (form.term_is S b a.0 n.0) n.1
       (sides_stand b u.places (args a.0) s.0 s.1) (sym m.2 ∙ ap one_child (sym s.2))
@@ -242,7 +242,7 @@ module _ (S : Signature) (one : HasOneIntAndStr S) (b : Branch) (u : Use) (adds 
       let c = and_then _ _ _ a.2 in
       let t = tested _ _ _ c.2 in
       rule.constructor_clash a.0 c.0.0.0 c.0.1.0 c.0.0.1 c.0.1.1 (names.by_place u 12 a.0 r a.1) (built_stand b a.0 c.0 c.1)
-      (differ c.0.0.0 c.0.1.0 t.0) (sym (some_is _ _ t.1))
+      (differ c.0.0.0 c.0.1.0 t.0) (sym (same_Some _ _ t.1))
 
   injective : u.rule ≡ 13 → child.injective b u ≡ Some adds → Step S b u adds
   injective r e =
@@ -284,7 +284,7 @@ module _ (S : Signature) (one : HasOneIntAndStr S) (b : Branch) (u : Use) (adds 
       let a = and_then _ _ _ e in
       let c = and_then _ _ _ a.2 in
       let t = tested _ _ _ c.2 in
-      literals_clash a.0 c.0.0 c.0.1 (names.by_place u 16 a.0 r a.1) (equality_stands b a.0 c.0 c.1) t.0 (sym (some_is _ _ t.1))
+      literals_clash a.0 c.0.0 c.0.1 (names.by_place u 16 a.0 r a.1) (equality_stands b a.0 c.0 c.1) t.0 (sym (same_Some _ _ t.1))
 
   -- # Order
 
@@ -296,7 +296,7 @@ module _ (S : Signature) (one : HasOneIntAndStr S) (b : Branch) (u : Use) (adds 
       let n = names.by_places u 17 a.0 r a.1 in
       let c = around_is b a.0 x.0 x.1 in
       rule.cycle c.0 x.0 (subst (λ ps. Names u 17 ps [] [] 0) (sym n.places) n) (subst (λ ps. Chain b ps c.0 c.0 (pos 0) x.0) (sym n.places) c.1)
-      (negative x.0 t.0) (sym (some_is _ _ t.1))
+      (negative x.0 t.0) (sym (same_Some _ _ t.1))
 
   turned_order : u.rule ≡ 18 → child.turned_order b u ≡ Some adds → Step S b u adds
   turned_order r e =
@@ -315,21 +315,21 @@ module _ (S : Signature) (one : HasOneIntAndStr S) (b : Branch) (u : Use) (adds 
       let c = and_then _ _ _ a.2 in
       let t = tested _ _ _ c.2 in
       rule.order_of_equals a.0 c.0.0 c.0.1 (names.by_place u 19 a.0 r a.1) (equality_stands b a.0 c.0 c.1) (form.number_is S b c.0.0 t.0)
-      (sym m.2 ∙ ap one_child (some_is _ _ (sym t.1)))
+      (sym m.2 ∙ ap one_child (same_Some _ _ (sym t.1)))
 
   both_orders : (p q : ℕ) (o s : Tm × Tm × ℤ) (f : Fm) → Names u 20 (p ∷ q ∷ []) [] [] 0
       → Stands b p (at_most o.0 o.1 o.2) → Stands b q (at_most s.0 s.1 s.2)
       → child.both_orders o s ≡ Some f → adds ≡ one_child f → Step S b u adds
   both_orders p q o s f n at bt h e =
       let t = tested _ _ _ h in
-      let three = and_both _ _ t.0 in
-      let two = and_both _ _ three.0 in
-      let zeros = and_both _ _ two.0 in
+      let three = and_parts _ _ t.0 in
+      let two = and_parts _ _ three.0 in
+      let zeros = and_parts _ _ two.0 in
       rule.equals_by_order p q o.0 o.1 n
       (subst (λ k. Stands b p (at_most o.0 o.1 k)) (same_int o.2 (pos 0) zeros.0) at)
       (bt ∙ ap (λ k. Some (at_most s.0 s.1 k)) (same_int s.2 (pos 0) zeros.1)
       ∙ ap₂ (λ x y. Some (at_most x y (pos 0))) (sym (tm_is o.1 s.0 three.1)) (sym (tm_is o.0 s.1 two.1)))
-      (e ∙ ap one_child (some_is _ _ (sym t.1)))
+      (e ∙ ap one_child (same_Some _ _ (sym t.1)))
 
   equals_by_order : u.rule ≡ 20 → child.equals_by_order b u ≡ Some adds → Step S b u adds
   equals_by_order r e =
@@ -342,7 +342,7 @@ module _ (S : Signature) (one : HasOneIntAndStr S) (b : Branch) (u : Use) (adds 
   sum_bounds : (i : ℕ) (t : Tm) (f : Fm) → Names u 21 [] (t ∷ []) [] i → IsTerm S b t
       → order_of_sum i t ≡ Some f → adds ≡ one_child f → Step S b u adds
   sum_bounds zero (Plus t k) f n h g e =
-      rule.sum_above t k n h (e ∙ ap one_child (some_is _ _ (sym g)))
+      rule.sum_above t k n h (e ∙ ap one_child (same_Some _ _ (sym g)))
   sum_bounds (suc zero) (Plus t k) f n h g e =
       let w = bounded _ _ _ _ g in
       rule.sum_below t k n h w.0 (e ∙ ap one_child (sym w.1))
@@ -367,7 +367,7 @@ module _ (S : Signature) (one : HasOneIntAndStr S) (b : Branch) (u : Use) (adds 
       let m = mapped _ _ _ e in
       let a = and_then _ _ _ m.1 in
       let t = tested _ _ _ a.2 in
-      let n = and_both _ _ t.0 in
+      let n = and_parts _ _ t.0 in
       differences a.0.0 a.0.1 m.0 (names.by_two_terms u 22 a.0 r a.1) (form.term_is S b a.0.0 n.0) (form.term_is S b a.0.1 n.1) t.1 (sym m.2)
 
   -- # All rules

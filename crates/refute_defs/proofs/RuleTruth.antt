@@ -1,6 +1,8 @@
 -- What a rule adds is true where its branch is.
 use Rattle.std.proofs.Common.{◌≡◌, ℕ, zero, suc, ◌+◌, List, [], ◌∷◌, length, true, false, cond, eqb, sym, refl, ap, ap₂, ◌∙◌, subst, slice_get, Option, Some, None, eq-eqb, arith, ℤ, pos, neg_ℤ, ◌+ℤ◌, ◌-ℤ◌, ◌≤ℤ◌, ◌<ℤ◌, int_le, add-zero}
 use Rattle.std.proofs.lemmas.Int.{ints}
+use Rattle.std.proofs.lemmas.Bool.{and_parts}
+use Rattle.std.proofs.lemmas.Option.{same_Some}
 use Rattle.rp_logic.specs.declared.sort.Sort.{Sort}
 use Rattle.rp_logic.specs.declared.sort.Sort.TheVariants as sort
 use Rattle.rp_logic.specs.Terms.{Tm, Tms, Var, Const, Fn, Int, Str, Con, Sel, Plus, no_tm, also_tm, At, Equal, Le, Rel}
@@ -9,18 +11,16 @@ use Rattle.rp_logic.specs.Signatures.{Signature, is_plain, is_int, is_str, is_co
 use Rattle.rp_logic.specs.Elements.{Elem, Elems, Point, Whole, Text, Made, no_elem, also_elem, same_elem}
 use Rattle.rp_logic.specs.Structures.{Structure, is_elem, are_elems, apply, is_related, number_of, nth_elem, elsewhere, select}
 use Rattle.rp_logic.specs.Truth.{Meaning, meaning_with, value, values, atom_truth, Holds, AllTrue}
-use Rattle.rp_logic.proofs.InstanceLaws.{and_both}
 use Rattle.rp_logic.proofs.SortLaws.{no}
 use Rattle.refute_defs.specs.Parts.{nth_tm, first_tm, second_tm, args, with_args, atom_args, atom_with, selections, built_with}
 use Rattle.refute_defs.specs.Branches.{Branch}
 use Rattle.refute_defs.specs.Rules.{Equalities, Chain}
-use Rattle.refute_defs.proofs.EachSorted.{some_is}
-use Rattle.refute_defs.proofs.SameElements.{same_is, is_same}
+use Rattle.rp_logic.proofs.ElementLaws.{same-is, is-same}
 
 pub true_at : (M : Meaning) (fs : List Fm) (p : ℕ) (f : Fm) → slice_get fs p ≡ Some f → AllTrue M fs
     → Holds M [] f
 true_at M [] p f e h = absurd cc
-true_at M (g ∷ gs) zero f e h = subst (λ x. Holds M [] x) (some_is g f e) h.0
+true_at M (g ∷ gs) zero f e h = subst (λ x. Holds M [] x) (same_Some g f e) h.0
 true_at M (g ∷ gs) (suc p) f e h = true_at M gs p f e h.1
 
 -- # Congruence
@@ -33,7 +33,7 @@ equal_values b M t [] (also_tm x ts) us h = absurd h
 equal_values b M t (p ∷ ps) no_tm us h = absurd h
 equal_values b M t (p ∷ ps) (also_tm x ts) no_tm h = absurd h
 equal_values b M t (p ∷ ps) (also_tm x ts) (also_tm u us) h =
-    ap₂ also_elem (same_is _ _ (true_at _ _ _ _ h.0 t)) (equal_values b M t ps ts us h.1)
+    ap₂ also_elem (same-is _ _ (true_at _ _ _ _ h.0 t)) (equal_values b M t ps ts us h.1)
 
 pub first_value : (M : Meaning) (x : Tm) (us : Tms) (xs : Elems)
     → also_elem (value M [] x) xs ≡ values M [] us → value M [] x ≡ value M [] (first_tm x us)
@@ -74,7 +74,7 @@ congruent_holds M (Rel r ts) us h = ap (λ xs. is_related (slice_get M.structure
 pub nth_value : (M : Meaning) (ts : Tms) (i : ℕ) (x : Tm) → nth_tm ts i ≡ Some x
     → nth_elem (values M [] ts) i ≡ value M [] x
 nth_value M no_tm i x h = absurd cc
-nth_value M (also_tm t ts) zero x h = ap (value M []) (some_is t x h)
+nth_value M (also_tm t ts) zero x h = ap (value M []) (same_Some t x h)
 nth_value M (also_tm t ts) (suc i) x h = nth_value M ts i x h
 
 chosen : (c : ℕ) (x y : Elem) → cond (eqb c c) x y ≡ x
@@ -95,7 +95,7 @@ rest_values S z M t c xs e (s ∷ ss) no_elem i at h = no h
 rest_values S z M t c xs e (s ∷ ss) (also_elem y ys) i at h =
     ap₂ also_elem
     (ap (select M.sig M.structure c i) e ∙ chosen c (nth_elem xs i) (elsewhere M.sig M.structure c i (Made c xs)) ∙ ap (nth_elem xs) (sym (add-zero i)) ∙ at zero)
-    (rest_values S z M t c xs e ss ys (suc i) (λ j. ap (nth_elem xs) (omega arith) ∙ at (suc j)) (and_both _ _ h).1)
+    (rest_values S z M t c xs e ss ys (suc i) (λ j. ap (nth_elem xs) (omega arith) ∙ at (suc j)) (and_parts _ _ h).1)
 
 plus_none : (xs : Elems) (j : ℕ) → nth_elem xs (0 + j) ≡ nth_elem xs j
 plus_none xs j = ap (nth_elem xs) (omega arith)
@@ -110,11 +110,11 @@ pub made_by : (S : Signature) (z : List ℕ) (s : ℕ) (cs : List ℕ) (v : Elem
     → slice_get S.sorts s ≡ Some (sort.Datatype cs) → is_elem S z s v ≡ true
     → (c : ℕ) × (xs : Elems) × (v ≡ Made c xs) × (is_con_of (slice_get S.cons c) s ≡ true) × (are_elems S z (fields_of (slice_get S.cons c)) xs ≡ true)
 made_by S z s cs (Point n) e h =
-    (not_data cs (slice_get S.sorts s) e).0 (and_both _ _ h).0
+    (not_data cs (slice_get S.sorts s) e).0 (and_parts _ _ h).0
 made_by S z s cs (Whole n) e h = (not_data cs (slice_get S.sorts s) e).1 h
 made_by S z s cs (Text y) e h = (not_data cs (slice_get S.sorts s) e).2 h
 made_by S z s cs (Made c xs) e h =
-    let b = and_both _ _ h in
+    let b = and_parts _ _ h in
     (c, xs, refl, b.0, b.1)
 
 pub case_true : (S : Signature) (M : Structure) (k : ℕ → Elem) (t : Tm) (c : ℕ) (xs : Elems)
@@ -122,7 +122,7 @@ pub case_true : (S : Signature) (M : Structure) (k : ℕ → Elem) (t : Tm) (c :
     → are_elems S M.sizes (fields_of (slice_get S.cons c)) xs ≡ true
     → Holds (meaning_with S M k) [] (built_with S t c)
 case_true S M k t c xs e h =
-    is_same (value (meaning_with S M k) [] t) (Made c (values (meaning_with S M k) [] (selections c 0 (length (fields_of (slice_get S.cons c))) t)))
+    is-same (value (meaning_with S M k) [] t) (Made c (values (meaning_with S M k) [] (selections c 0 (length (fields_of (slice_get S.cons c))) t)))
     (e ∙ ap (Made c) (sym (rest_values S M.sizes (meaning_with S M k) t c xs e (fields_of (slice_get S.cons c)) xs 0 (plus_none xs) h)))
 
 -- # Order
@@ -186,7 +186,7 @@ pub is_whole : (S : Signature) (z : List ℕ) (s : ℕ) (v : Elem) → is_int (s
     → is_elem S z s v ≡ true → ((c : ℕ) → is_con_of (slice_get S.cons c) s ≡ true → ⊥)
     → v ≡ Whole (number_of v)
 is_whole S z s (Point n) i h no_con =
-    absurd (by (slice_get S.sorts s) i (and_both _ _ h).0)
+    absurd (by (slice_get S.sorts s) i (and_parts _ _ h).0)
   where
     by : (o : Option Sort) → is_int o ≡ true → is_plain o ≡ true → ⊥
     by (Some sort.Int) p q = no q
@@ -204,4 +204,4 @@ is_whole S z s (Text y) i h no_con = absurd (by (slice_get S.sorts s) i h)
     by (Some (sort.Datatype cs)) p q = no p
     by None p q = no p
 is_whole S z s (Made c xs) i h no_con =
-    absurd (no_con c (and_both _ _ h).0)
+    absurd (no_con c (and_parts _ _ h).0)

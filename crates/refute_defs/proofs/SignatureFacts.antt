@@ -1,13 +1,13 @@
 -- What a signature keeps, fact by fact.
 use Rattle.std.proofs.Common.{◌≡◌, ℕ, zero, suc, ◌+◌, List, [], ◌∷◌, length, Bool, true, false, ◌&&◌, ◌||◌, IsTrue, refl, ap, subst, slice_get, Option, Some, None, eqb, eqb-true, arith}
 use Rattle.std.specs.List.{list_all}
+use Rattle.std.proofs.lemmas.Bool.{and_parts}
+use Rattle.std.proofs.lemmas.Option.{same_Some}
 use Rattle.rp_logic.specs.declared.sort.Sort.{Sort}
 use Rattle.rp_logic.specs.declared.sort.Sort.TheVariants as sort
 use Rattle.rp_logic.specs.declared.sort.LogicCon.{LogicCon}
 use Rattle.rp_logic.specs.Signatures.{Signature, is_int, is_str, is_con_of, listed, contains, are_own, list_their_own, are_listed, are_of_sorts, has_one_int_and_str, is_signature}
-use Rattle.rp_logic.proofs.InstanceLaws.{and_both}
 use Rattle.rp_logic.proofs.SortLaws.{no, one_place, HasOneIntAndStr, ones}
-use Rattle.refute_defs.proofs.EachSorted.{some_is}
 
 abbrev pub KeepsAll : Signature → Type 0
 KeepsAll S = IsTrue (is_signature S.sorts S.consts S.fns S.rels S.cons)
@@ -42,9 +42,9 @@ passes_at : (test : ℕ → Bool) (numbers : List ℕ) (k n : ℕ) → list_all 
     → slice_get numbers k ≡ Some n → test n ≡ true
 passes_at test [] k n h e = absurd cc
 passes_at test (m ∷ numbers) zero n h e =
-    subst (λ x. test x ≡ true) (some_is m n e) (and_both _ _ h).0
+    subst (λ x. test x ≡ true) (same_Some m n e) (and_parts _ _ h).0
 passes_at test (m ∷ numbers) (suc k) n h e =
-    passes_at test numbers k n (and_both _ _ h).1 e
+    passes_at test numbers k n (and_parts _ _ h).1 e
 
 -- # Datatypes and their constructors
 
@@ -62,12 +62,12 @@ con_listed : (sorts : List Sort) (first : ℕ) (cons : List LogicCon) (c s : ℕ
     → contains (listed (slice_get sorts s)) (first + c) ≡ true
 con_listed sorts first [] c s h e = no e
 con_listed sorts first (con ∷ cons) zero s h e =
-    let b = and_both _ _ h in
+    let b = and_parts _ _ h in
     let at : con.sort ≡ s = eqb-true con.sort s e in
     let place : first ≡ first + 0 = omega arith in
     subst (λ n. contains (listed (slice_get sorts s)) n ≡ true) place (subst (λ r. contains (listed (slice_get sorts r)) first ≡ true) at b.0)
 con_listed sorts first (con ∷ cons) (suc c) s h e =
-    let b = and_both _ _ h in
+    let b = and_parts _ _ h in
     let place : suc first + c ≡ first + suc c = omega arith in
     subst (λ n. contains (listed (slice_get sorts s)) n ≡ true) place (con_listed sorts (suc first) cons c s b.1 e)
 
@@ -76,11 +76,11 @@ own_at : (cons : List LogicCon) (first : ℕ) (sorts : List Sort) (s : ℕ) (x :
     → are_own cons (first + s) (listed (Some x)) ≡ true
 own_at cons first [] s x h e = absurd cc
 own_at cons first (y ∷ sorts) zero x h e =
-    let b = and_both _ _ h in
+    let b = and_parts _ _ h in
     let place : first ≡ first + 0 = omega arith in
-    subst (λ n. are_own cons n (listed (Some x)) ≡ true) place (subst (λ z. are_own cons first (listed (Some z)) ≡ true) (some_is y x e) b.0)
+    subst (λ n. are_own cons n (listed (Some x)) ≡ true) place (subst (λ z. are_own cons first (listed (Some z)) ≡ true) (same_Some y x e) b.0)
 own_at cons first (y ∷ sorts) (suc s) x h e =
-    let b = and_both _ _ h in
+    let b = and_parts _ _ h in
     let place : suc first + s ≡ first + suc s = omega arith in
     subst (λ n. are_own cons n (listed (Some x)) ≡ true) place (own_at cons (suc first) sorts s x b.1 e)
 
@@ -101,16 +101,16 @@ are_own_of S s x h e =
 pub one_of_each : (S : Signature) → KeepsAll S → HasOneIntAndStr S
 one_of_each S h =
     let most : Bool = are_of_sorts (length S.sorts) S.consts S.fns S.rels S.cons && has_one_int_and_str S.sorts in
-    let a = and_both _ _ h in
-    let b = and_both _ _ a.0 in
-    ones S (and_both _ _ b.0).1
+    let a = and_parts _ _ h in
+    let b = and_parts _ _ a.0 in
+    ones S (and_parts _ _ b.0).1
 
 pub kept : (S : Signature) → KeepsAll S → IsKept S
 kept S h =
     let one = one_of_each S h in
     let most : Bool = are_of_sorts (length S.sorts) S.consts S.fns S.rels S.cons && has_one_int_and_str S.sorts in
-    let a = and_both _ _ h in
-    let own = (and_both _ _ a.0).1 in
+    let a = and_parts _ _ h in
+    let own = (and_parts _ _ a.0).1 in
     record {
       one_int = λ r s p q. one_place is_int refl S.sorts one.ints r s p q;
       one_str = λ r s p q. one_place is_str refl S.sorts one.strs r s p q;
@@ -118,5 +118,5 @@ kept S h =
       listed = λ s c cons e p. place_of cons c (subst (λ o. contains (listed o) c ≡ true) e (listed_by S c s a.1 p));
       own_listed = λ s c k cons e f.
           passes_at (λ x. is_con_of (slice_get S.cons x) s) cons k c
-          (and_both _ _ (are_own_of S s (sort.Datatype cons) own e)).0 f;
+          (and_parts _ _ (are_own_of S s (sort.Datatype cons) own e)).0 f;
     }

@@ -2,6 +2,8 @@
 use Rattle.std.proofs.Common.{◌≡◌, ℕ, zero, suc, ◌≤◌, List, [], ◌∷◌, ◌++◌, length, Bool, true, false, not, cond, eqb, ltb, sym, refl, ap, ◌∙◌, subst, true≢false, slice_get, Option, Some, eqb-true, eq-eqb, ltb-true, arith, pos, neg_ℤ, ◌+ℤ◌, ◌-ℤ◌, int_le}
 use Rattle.std.proofs.lemmas.Bool.Decides.{Decides-int_eq}
 use Rattle.std.proofs.lemmas.Slice.Eq.{bytes_eq-Decides}
+use Rattle.std.proofs.lemmas.Bool.{and_parts}
+use Rattle.std.proofs.lemmas.Option.{same_Some}
 use Rattle.rp_logic.specs.declared.sort.NewConst.{NewConst}
 use Rattle.rp_logic.specs.Terms.{Tm, Const, Int, Con, Sel, Plus, Equal, Le}
 use Rattle.rp_logic.specs.Formulas.{Fm, Fms, Ex, Lit, no_fm, also_fm}
@@ -11,21 +13,21 @@ use Rattle.rp_logic.specs.Elements.{Elem, Whole}
 use Rattle.rp_logic.specs.Structures.{Structure, Fits, Is, is_elem, number_of, nth_elem}
 use Rattle.rp_logic.specs.Truth.{Meaning, meaning_with, value, values, atom_truth, Holds, AllHold, NoneHolds, AllTrue}
 use Rattle.rp_logic.specs.Instance.{instance}
-use Rattle.rp_logic.proofs.InstanceLaws.{and_both, instance_law}
+use Rattle.rp_logic.proofs.InstanceLaws.{instance_law}
 use Rattle.rp_logic.proofs.SortLaws.{no}
 use Rattle.rp_logic.proofs.ValueSorts.{closed_of_sort, value_sort}
 use Rattle.refute_defs.specs.Uses.{Use, Nd, Rule, Unvisited, Current}
 use Rattle.refute_defs.specs.Parts.{nth_fm, args, with_args, atom_args, atom_with, built_with}
 use Rattle.refute_defs.specs.Additions.{Addition, formula_alone, one_child, child_for_each, child_for_each_con, bringing}
 use Rattle.refute_defs.specs.Branches.{Branch, extend_each, root}
-use Rattle.refute_defs.specs.Constants.{formula_lacks, each_lacks}
+use Rattle.rp_logic.specs.Constants.{formula_lacks, each_lacks, with_value}
 use Rattle.refute_defs.specs.Rules.{Stands, Step}
 use Rattle.refute_defs.specs.Rules as rule
 use Rattle.refute_defs.specs.Closed.{AreClosed, IsClosedTree, AreWellSorted, IsSignature}
-use Rattle.refute_defs.proofs.EachSorted.{some_is, EachSorted, sorted_at}
-use Rattle.refute_defs.proofs.SameElements.{same_is, same_elems_is, is_same}
-use Rattle.refute_defs.proofs.NewConstants.{with_value, truth_lacks, branch_holds}
-use Rattle.refute_defs.proofs.NewConstantSorts.{last_counts}
+use Rattle.rp_logic.proofs.EachSorted.{EachSorted, sorted_at}
+use Rattle.rp_logic.proofs.ElementLaws.{same-is, sames-are, is-same}
+use Rattle.rp_logic.proofs.NewConstants.{truth_lacks, branch_holds}
+use Rattle.rp_logic.proofs.NewConstantSorts.{last_counts}
 use Rattle.refute_defs.proofs.RuleTruth.{true_at, equal_values, congruent_value, congruent_holds, nth_value, selector_value, made_by, case_true, turn, le_itself, antisymmetric, above, below, apart, chain_le, no_cycle, is_whole}
 use Rattle.refute_defs.proofs.SignatureFacts.{IsKept, kept}
 use Rattle.refute_defs.proofs.KeepsSorts.{SortedBranches, step_sorted}
@@ -34,9 +36,9 @@ pub lacks_at : (c : ℕ) (fs : List Fm) (p : ℕ) (f : Fm) → slice_get fs p �
     → each_lacks c fs ≡ true → formula_lacks c f ≡ true
 lacks_at c [] p f e h = absurd cc
 lacks_at c (g ∷ gs) zero f e h =
-    subst (λ x. formula_lacks c x ≡ true) (some_is g f e) (and_both _ _ h).0
+    subst (λ x. formula_lacks c x ≡ true) (same_Some g f e) (and_parts _ _ h).0
 lacks_at c (g ∷ gs) (suc p) f e h =
-    lacks_at c gs p f e (and_both _ _ h).1
+    lacks_at c gs p f e (and_parts _ _ h).1
 
 pub true_more : (M : Meaning) (fs : List Fm) (f : Fm) → AllTrue M fs → Holds M [] f
     → AllTrue M (fs ++ f ∷ [])
@@ -46,7 +48,7 @@ true_more M (g ∷ gs) f h t = (h.0, true_more M gs f h.1 t)
 pub true_nth : (M : Meaning) (fs : Fms) (n : ℕ) (f : Fm) → nth_fm fs n ≡ Some f → AllHold M [] fs
     → Holds M [] f
 true_nth M no_fm n f e h = absurd cc
-true_nth M (also_fm g gs) zero f e h = subst (λ x. Holds M [] x) (some_is g f e) h.0
+true_nth M (also_fm g gs) zero f e h = subst (λ x. Holds M [] x) (same_Some g f e) h.0
 true_nth M (also_fm g gs) (suc n) f e h = true_nth M gs n f e h.1
 
 -- # A new constant
@@ -58,7 +60,7 @@ new_sort : (a b : Bool) (o q x : Option ℕ) (s r : ℕ) (v y : Elem) (S : Signa
 new_sort true true o q x s r v y S M n i h l e = absurd (n refl refl)
 new_sort true false o q x s r v y S M n i h l e = h e
 new_sort false true o q x s r v y S M n i h l e =
-    subst (λ z. is_elem S M.sizes z v ≡ true) (some_is s r (sym l ∙ e)) i
+    subst (λ z. is_elem S M.sizes z v ≡ true) (same_Some s r (sym l ∙ e)) i
 new_sort false false o q x s r v y S M n i h l e = h (sym l ∙ e)
 
 -- a structure fits with any element of its sort for the new constant
@@ -130,7 +132,7 @@ cases_sound : (S : Signature) (b : Branch) (t : Tm) (M : Structure) (k : ℕ →
     → Holds (meaning_with S M k) [] (built_with S t c) → ⊥
 cases_sound S b t M k w h [] n j c e i = absurd cc
 cases_sound S b t M k w h (d ∷ ds) n zero c e i =
-    n.0 M k w (true_more _ _ _ h (subst (λ x. Holds (meaning_with S M k) [] (built_with S t x)) (sym (some_is d c e)) i))
+    n.0 M k w (true_more _ _ _ h (subst (λ x. Holds (meaning_with S M k) [] (built_with S t x)) (sym (same_Some d c e)) i))
 cases_sound S b t M k w h (d ∷ ds) n (suc j) c e i = cases_sound S b t M k w h ds n.1 j c e i
 
 one_more : (S : Signature) (b : Branch) (f : Fm) (adds : List Addition) → adds ≡ one_child f
@@ -170,28 +172,28 @@ step_sound S i b u adds o (rule.clash p q s a x at bt e) n M k w t =
     (true_at _ _ _ _ bt t)
 step_sound S i b u adds o (rule.transitive p q x y z a at bt e) n M k w t =
     let val : Tm → Elem = value (meaning_with S M k) [] in
-    let one = same_is (val x) (val y) (true_at _ _ _ _ at t) in
-    let two = same_is (val y) (val z) (true_at _ _ _ _ bt t) in
-    one_more S b (Lit true (Equal x z)) adds e n M k w t (is_same (val x) (val z) (one ∙ two))
+    let one = same-is (val x) (val y) (true_at _ _ _ _ at t) in
+    let two = same-is (val y) (val z) (true_at _ _ _ _ bt t) in
+    one_more S b (Lit true (Equal x z)) adds e n M k w t (is-same (val x) (val z) (one ∙ two))
 step_sound S i b u adds o (rule.reflexive x a h e) n M k w t =
-    one_more S b (Lit true (Equal x x)) adds e n M k w t (is_same (value (meaning_with S M k) [] x) (value (meaning_with S M k) [] x) refl)
+    one_more S b (Lit true (Equal x x)) adds e n M k w t (is-same (value (meaning_with S M k) [] x) (value (meaning_with S M k) [] x) refl)
 step_sound S i b u adds o (rule.symmetric p x y a at e) n M k w t =
     let val : Tm → Elem = value (meaning_with S M k) [] in
-    one_more S b (Lit true (Equal y x)) adds e n M k w t (is_same (val y) (val x) (sym (same_is (val x) (val y) (true_at _ _ _ _ at t))))
+    one_more S b (Lit true (Equal y x)) adds e n M k w t (is-same (val y) (val x) (sym (same-is (val x) (val y) (true_at _ _ _ _ at t))))
 step_sound S i b u adds o (rule.congruent_term x us a h d q e) n M k w t =
     let m = meaning_with S M k in
-    one_more S b (Lit true (Equal x (with_args x us))) adds e n M k w t (is_same (value m [] x) (value m [] (with_args x us)) (congruent_value m x us (equal_values b m t u.places (args x) us q)))
+    one_more S b (Lit true (Equal x (with_args x us))) adds e n M k w t (is-same (value m [] x) (value m [] (with_args x us)) (congruent_value m x us (equal_values b m t u.places (args x) us q)))
 step_sound S i b u adds o (rule.congruent_literal p ps s a us c at q e) n M k w t =
     let m = meaning_with S M k in
     one_more S b (Lit s (atom_with a us)) adds e n M k w t (sym (congruent_holds m a us (equal_values b m t ps (atom_args a) us q)) ∙ true_at _ _ _ _ at t)
 step_sound S i b u adds o (rule.constructor_clash p c d ts us a at q e) n M k w t =
     let m = meaning_with S M k in
-    q (eqb-true c d (and_both _ _ (true_at _ _ _ _ at t)).0)
+    q (eqb-true c d (and_parts _ _ (true_at _ _ _ _ at t)).0)
 step_sound S i b u adds o (rule.injective p c ts us x y a at j l e) n M k w t =
     let m = meaning_with S M k in
-    let q = same_elems_is (values m [] ts) (values m [] us) (and_both _ _ (true_at _ _ _ _ at t)).1 in
+    let q = sames-are (values m [] ts) (values m [] us) (and_parts _ _ (true_at _ _ _ _ at t)).1 in
     one_more S b (Lit true (Equal x y)) adds e n M k w t
-    (is_same (value m [] x) (value m [] y) (sym (nth_value m ts u.pick x j) ∙ ap (λ xs. nth_elem xs u.pick) q ∙ nth_value m us u.pick y l))
+    (is-same (value m [] x) (value m [] y) (sym (nth_value m ts u.pick x j) ∙ ap (λ xs. nth_elem xs u.pick) q ∙ nth_value m us u.pick y l))
 step_sound S i b u adds o (rule.cases x s cs a d h e) n M k w t =
     let v = value (meaning_with S M k) [] x in
     let y = made_by S M.sizes s cs v d (value_sort x S M k b.added s w h) in
@@ -199,7 +201,7 @@ step_sound S i b u adds o (rule.cases x s cs a d h e) n M k w t =
     cases_sound S b x M k w t cs (moved S b adds (child_for_each_con S x cs) e n) l.0 y.0 l.1 (case_true S M k x y.0 y.1 y.2 y.4)
 step_sound S i b u adds o (rule.selector c j ts x a h l e) n M k w t =
     let m = meaning_with S M k in
-    one_more S b (Lit true (Equal (Sel c j (Con c ts)) x)) adds e n M k w t (is_same (value m [] (Sel c j (Con c ts))) (value m [] x) (selector_value m c j ts x l))
+    one_more S b (Lit true (Equal (Sel c j (Con c ts)) x)) adds e n M k w t (is-same (value m [] (Sel c j (Con c ts))) (value m [] x) (selector_value m c j ts x l))
 step_sound S i b u adds o (rule.number_clash p x y a at d e) n M k w t =
     d ((Decides-int_eq x y).0 (true_at _ _ _ _ at t))
 step_sound S i b u adds o (rule.text_clash p x y a at d e) n M k w t =
@@ -211,14 +213,14 @@ step_sound S i b u adds o (rule.turned_order p x y z a at v e) n M k w t =
     one_more S b (Lit true (Le y x (neg_ℤ z -ℤ pos 1))) adds e n M k w t (turn (number_of (value m [] x)) (number_of (value m [] y)) z (true_at _ _ _ _ at t))
 step_sound S i b u adds o (rule.order_of_equals p x y a at h e) n M k w t =
     let m = meaning_with S M k in
-    let q = same_is (value m [] x) (value m [] y) (true_at _ _ _ _ at t) in
+    let q = same-is (value m [] x) (value m [] y) (true_at _ _ _ _ at t) in
     one_more S b (Lit true (Le x y (pos 0))) adds e n M k w t (subst (λ v. int_le (number_of (value m [] x)) (number_of v +ℤ pos 0) ≡ true) q (le_itself (number_of (value m [] x))))
 step_sound S i b u adds o (rule.equals_by_order p q x y a at bt e) n M k w t =
     let m = meaning_with S M k in
     let h = sorted_at _ _ _ _ _ at o in
     let both_equal = antisymmetric (number_of (value m [] x)) (number_of (value m [] y)) (true_at _ _ _ _ at t) (true_at _ _ _ _ bt t) in
     one_more S b (Lit true (Equal x y)) adds e n M k w t
-    (is_same (value m [] x) (value m [] y) (number S i M k b.added w x h.0.0 h.0.1 h.0.2 ∙ ap Whole both_equal ∙ sym (number S i M k b.added w y h.1.0 h.1.1 h.1.2)))
+    (is-same (value m [] x) (value m [] y) (number S i M k b.added w x h.0.0 h.0.1 h.0.2 ∙ ap Whole both_equal ∙ sym (number S i M k b.added w y h.1.0 h.1.1 h.1.2)))
 step_sound S i b u adds o (rule.sum_above x z a h e) n M k w t =
     one_more S b (Lit true (Le (Plus x z) x z)) adds e n M k w t (above (number_of (value (meaning_with S M k) [] x)) z)
 step_sound S i b u adds o (rule.sum_below x z a h v e) n M k w t =

@@ -7,10 +7,10 @@ pub mod Constants
 pub mod NewTerms
 pub mod Numbers
 pub mod Parts
-pub mod Rows
 pub mod Rules
 pub mod Same
 pub mod Shapes
 pub mod Uses
 pub mod Verdicts
 pub mod Views
+pub mod rows

@@ -10,7 +10,7 @@ use Rattle.refute_defs.specs.Uses.{Use}
 use Rattle.refute_defs.specs.Parts.{nth_tm, nth_fm, are_some, args, with_args, atom_args, atom_with, equal, at_most}
 use Rattle.refute_defs.specs.Additions.{Addition, formula_alone, one_child, child_for_each, child_for_each_con, bringing}
 use Rattle.refute_defs.specs.Branches.{Branch, formula_at}
-use Rattle.refute_defs.specs.Constants.{each_lacks}
+use Rattle.rp_logic.specs.Constants.{each_lacks}
 use Rattle.refute_defs.specs.Numbers.{fits}
 use Rattle.refute_defs.specs.NewTerms.{HasSort, IsTerm, IsNumberTerm, IsAtom}
 

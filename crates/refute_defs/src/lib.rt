@@ -3,11 +3,8 @@
 #![tactic(auto)]
 
 mod laws;
+pub mod rows;
 mod tree;
 
-pub use laws::{
-    children_are_steps, clash_rows, congruence_rows, constant_rows, cycle_rows, difference_rows,
-    equality_rule_rows, instance_rows, leaf_rows, no_structure, order_rule_rows,
-    refutations_conclude, sort_rows, verdicts_are_exact,
-};
+pub use laws::{children_are_steps, no_structure, refutations_conclude, verdicts_are_exact};
 pub use tree::{Node, RuleUse, Tree};

@@ -1,16 +1,12 @@
 -- A closed term in place of a variable: what it means.
-use Rattle.std.proofs.Common.{◌≡◌, ℕ, zero, suc, pred, ◌<◌, List, [], ◌∷◌, ◌++◌, length, get_or, Bool, true, false, cond, ◌+ℤ◌, ltb, eqb, ◌&&◌, ◌↔◌, sym, refl, ap, ap₂, ◌∙◌, true≢false, arith, slice_get, ltb-true, ltb-false, eqb-true}
+use Rattle.std.proofs.Common.{◌≡◌, ℕ, zero, suc, pred, ◌<◌, List, [], ◌∷◌, ◌++◌, length, get_or, Bool, true, false, cond, ◌+ℤ◌, ltb, eqb, ◌↔◌, sym, refl, ap, ap₂, ◌∙◌, true≢false, arith, slice_get, ltb-true, ltb-false, eqb-true}
+use Rattle.std.proofs.lemmas.Bool.{and_parts}
 use Rattle.rp_logic.specs.Terms.{Tm, Tms, Var, Const, Fn, Int, Str, Con, Sel, Plus, no_tm, also_tm, At, Equal, Le, Rel, is_closed, are_closed}
 use Rattle.rp_logic.specs.Formulas.{Fm, Fms, And, Or, All, Ex, Lit, no_fm, also_fm}
 use Rattle.rp_logic.specs.Elements.{Elem, Whole, Made, also_elem, junk}
 use Rattle.rp_logic.specs.Structures.{select, number_of, apply}
 use Rattle.rp_logic.specs.Truth.{Meaning, Holds, AllHold, NoneHolds, atom_truth, value, values}
 use Rattle.rp_logic.specs.Instance.{put, put_each, put_atom, instance_at, instances_at}
-
-pub and_both : (a b : Bool) → a && b ≡ true → (a ≡ true) × (b ≡ true)
-and_both true true h = (refl, refl)
-and_both true false h = absurd (true≢false (sym h))
-and_both false b h = absurd (true≢false (sym h))
 
 get_low : (es xs ys : List Elem) (n : ℕ) → n < length es → get_or (es ++ xs) n junk ≡ get_or (es ++ ys) n junk
 get_low [] xs ys n h = absurd (omega arith)
@@ -42,7 +38,7 @@ mutual
   pub closed_values : (ts : Tms) (M : Meaning) (e d : List Elem) → are_closed ts ≡ true → values M e ts ≡ values M d ts
   closed_values no_tm M e d h = refl
   closed_values (also_tm t ts) M e d h =
-      let b = and_both (is_closed t) (are_closed ts) h in
+      let b = and_parts (is_closed t) (are_closed ts) h in
       ap₂ also_elem (closed_value t M e d b.0) (closed_values ts M e d b.1)
 
 put_var : (n : ℕ) (M : Meaning) (es e : List Elem) (t : Tm) → is_closed t ≡ true → (a b : Bool) → ltb n (length es) ≡ a → eqb n (length es) ≡ b

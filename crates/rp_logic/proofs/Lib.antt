@@ -1,10 +1,15 @@
 pub mod DualLaws
+pub mod EachSorted
+pub mod ElementLaws
 pub mod FormulaViews
 pub mod InstanceLaws
 pub mod KeptLaws
 pub mod ListViews
+pub mod NewConstantSorts
+pub mod NewConstants
 pub mod RowLaws
 pub mod ScopeViews
 pub mod SortLaws
+pub mod SortedInstances
 pub mod TermViews
 pub mod ValueSorts

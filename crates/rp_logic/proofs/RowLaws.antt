@@ -1,18 +1,14 @@
 -- The worked rows hold.
 use Rattle.std.proofs.Common.{◌≡◌, ◌<◌, ℕ, zero, suc, ◌∷◌, [], Bool, true, false, cond, Some, None, nat_lt, sym, refl, ◌∙◌, true≢false, arith, ltb-true}
+use Rattle.std.proofs.lemmas.Option.{none-some}
 use Rattle.rp_logic.specs.Elements.{Elem, Point, Whole, Text, Made}
 use Rattle.rp_logic.specs.Structures.{Is, own_consts}
-use Rattle.rp_logic.specs.Rows.{one_sort, nothing, EmptySort, SortOfAConstant}
-
-no : {A : Type 0} → false ≡ true → A
-no h = absurd (true≢false (sym h))
+use Rattle.rp_logic.specs.rows.EmptySorts.{one_sort, nothing, EmptySort, SortOfAConstant}
+use Rattle.rp_logic.proofs.SortLaws.{no}
 
 none_given : {A : Type 0} (b : Bool) (x : A) → cond b None None ≡ Some x → ⊥
 none_given true x e = cc
 none_given false x e = cc
-
-none_some : {A : Type 0} (x : A) → None ≡ Some x → ⊥
-none_some x e = cc
 
 -- no element is of any sort
 no_element : (v : Elem) (s : ℕ) → Is (one_sort []) nothing s v → ⊥
@@ -28,10 +24,10 @@ pub empty_sort : EmptySort
 empty_sort = (
   record {
     constants = λ c s e. absurd (none_given (nat_lt c 0) s e);
-    functions = λ f decl e. absurd (none_some decl e);
+    functions = λ f decl e. absurd (none-some decl e);
     defaults = λ s v h. absurd (no_element v s h);
-    fields = λ con i s e. absurd (none_some s e);
-    selectors = λ con i s e. absurd (none_some s e);
+    fields = λ con i s e. absurd (none-some s e);
+    selectors = λ con i s e. absurd (none-some s e);
   },
   ((λ v h. absurd (no_element v 0 h)), ((λ v h. absurd (no_element v 0 h)), tt)),
 )

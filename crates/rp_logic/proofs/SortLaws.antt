@@ -3,6 +3,8 @@ use Rattle.std.proofs.Common.{◌≡◌, ◌≢◌, ◌<◌, ◌≤◌, ◌+◌,
 use Rattle.std.specs.List.{position_from}
 use Rattle.std.specs.Option.{option_or}
 use Rattle.std.proofs.lemmas.List.Sums.{sum_by-cons}
+use Rattle.std.proofs.lemmas.Bool.{and_parts, and_from}
+use Rattle.std.proofs.lemmas.Option.{same_Some}
 use Rattle.rp_logic.specs.declared.sort.Sort.{Sort}
 use Rattle.rp_logic.specs.declared.sort.FnDecl.{FnDecl}
 use Rattle.rp_logic.specs.declared.sort.LogicCon.{LogicCon}
@@ -12,24 +14,16 @@ use Rattle.rp_logic.specs.Terms.{Tm, Var, Const, Fn, Int, Str, Con, Sel, Plus, T
 use Rattle.rp_logic.specs.Formulas.{Fm, And, Or, All, Ex, Lit, Fms, no_fm, also_fm}
 use Rattle.rp_logic.specs.Signatures.{Signature, is_int, is_str, is_con_of, fields_of, are_of_sorts, has_one_int_and_str, list_their_own, are_listed}
 use Rattle.rp_logic.specs.Sorted.{const_sort, is_sort, gives, takes, sort_of_con, has_sort, have_sorts, IsNumber, IsSortedAtom, IsSorted, AreSorted, IsWellSorted}
-use Rattle.rp_logic.specs.SortTests.{int_sort, str_sort, result_of, datatype_of, head_sort, at_sorts, have_one_sort, atom_test, sort_test, sort_tests}
+use Rattle.rp_logic.specs.SortTests.{int_sort, str_sort, result_of, datatype_of, head_sort, at_sorts, have_one_sort, atom_test}
+use Rattle.rp_logic.specs.means.FormulaTests.{sort_test, sort_tests}
 use Rattle.rp_logic.specs.declared.sig.Sig.{Sig}
 use Rattle.rp_logic.specs.SigView.{sig_view}
 use Rattle.rp_logic.specs.Views.{term_view, terms_view}
-use Rattle.rp_logic.proofs.InstanceLaws.{and_both}
 
 -- # Tests
 
 pub no : {A : Type 0} → false ≡ true → A
 no h = absurd (true≢false (sym h))
-
-pub both : (a b : Bool) → a ≡ true → b ≡ true → a && b ≡ true
-both true true p q = refl
-both true false p q = q
-both false b p q = p
-
-some_is : {A : Type 0} (a b : A) → Some a ≡ Some b → a ≡ b
-some_is a b e = cc
 
 and_false : (a b : Bool) → b ≡ false → a && b ≡ false
 and_false true b h = h
@@ -85,7 +79,7 @@ first_passes f (x ∷ xs) i s h = by (f (Some x)) refl (λ g. first_passes f xs 
     by : (b : Bool) → f (Some x) ≡ b
         → (position_from (λ sort. f (Some sort)) (i + 1) xs ≡ Some s → (k : ℕ) × (s ≡ i + 1 + k) × (f (slice_get xs k) ≡ true))
         → cond b (Some i) (position_from (λ sort. f (Some sort)) (i + 1) xs) ≡ Some s → (k : ℕ) × (s ≡ i + k) × (f (slice_get (x ∷ xs) k) ≡ true)
-    by true e rest g = let q : i ≡ s = some_is i s g in (0, omega arith, e)
+    by true e rest g = let q : i ≡ s = same_Some i s g in (0, omega arith, e)
     by false e rest g = at_next (rest g)
 
 pub passes_first : (f : Option Sort → Bool) → f None ≡ false → (xs : List Sort) (i s : ℕ) → passing f xs ≤ 1 → f (slice_get xs s) ≡ true
@@ -130,7 +124,7 @@ pub record HasOneIntAndStr (S : Signature) : Type 0 where
 
 pub ones : (S : Signature) → has_one_int_and_str S.sorts ≡ true → HasOneIntAndStr S
 ones S h =
-    let b = and_both (nat_le (passing is_int S.sorts) 1) (nat_le (passing is_str S.sorts) 1) h in
+    let b = and_parts (nat_le (passing is_int S.sorts) 1) (nat_le (passing is_str S.sorts) 1) h in
     record { ints = leb-true (passing is_int S.sorts) 1 b.0; strs = leb-true (passing is_str S.sorts) 1 b.1 }
 
 int_found : (S : Signature) → HasOneIntAndStr S → (s : ℕ) → is_int (slice_get S.sorts s) ≡ true → int_sort S ≡ Some s
@@ -165,15 +159,15 @@ pub head_is : (t : Tm) (S : Signature) → HasOneIntAndStr S → (added : List N
 head_is (Var n) S one added scope s h = sort_known (slice_get scope n) s h
 head_is (Const c) S one added scope s h = sort_known (const_sort S added c) s h
 head_is (Fn f ts) S one added scope s h =
-    result_known (slice_get S.fns f) s (and_both (gives (slice_get S.fns f) s) (have_sorts S added scope (takes (slice_get S.fns f)) ts) h).0
+    result_known (slice_get S.fns f) s (and_parts (gives (slice_get S.fns f) s) (have_sorts S added scope (takes (slice_get S.fns f)) ts) h).0
 head_is (Int n) S one added scope s h = int_found S one s h
 head_is (Str bytes) S one added scope s h = str_found S one s h
 head_is (Con c ts) S one added scope s h =
-    datatype_known (slice_get S.cons c) s (and_both (is_con_of (slice_get S.cons c) s) (have_sorts S added scope (fields_of (slice_get S.cons c)) ts) h).0
+    datatype_known (slice_get S.cons c) s (and_parts (is_con_of (slice_get S.cons c) s) (have_sorts S added scope (fields_of (slice_get S.cons c)) ts) h).0
 head_is (Sel c i t) S one added scope s h =
     sort_known (slice_get (fields_of (slice_get S.cons c)) i) s
-    (and_both (is_sort (slice_get (fields_of (slice_get S.cons c)) i) s) (has_sort S added scope (sort_of_con (slice_get S.cons c)) t) h).0
-head_is (Plus t n) S one added scope s h = int_found S one s (and_both (is_int (slice_get S.sorts s)) (has_sort S added scope s t) h).0
+    (and_parts (is_sort (slice_get (fields_of (slice_get S.cons c)) i) s) (has_sort S added scope (sort_of_con (slice_get S.cons c)) t) h).0
+head_is (Plus t n) S one added scope s h = int_found S one s (and_parts (is_int (slice_get S.sorts s)) (has_sort S added scope s t) h).0
 
 -- # Atoms and formulas
 
@@ -181,12 +175,12 @@ at_one : (S : Signature) (added : List NewConst) (scope : List ℕ) (o : Option 
     → (s : ℕ) × (o ≡ Some s) × (has_sort S added scope s a ≡ true) × (has_sort S added scope s b ≡ true)
 at_one S added scope None a b h = no h
 at_one S added scope (Some s) a b h =
-    let r = and_both (has_sort S added scope s a) (has_sort S added scope s b) h in (s, refl, r.0, r.1)
+    let r = and_parts (has_sort S added scope s a) (has_sort S added scope s b) h in (s, refl, r.0, r.1)
 
 of_one : (S : Signature) (added : List NewConst) (scope : List ℕ) (o : Option ℕ) (s : ℕ) (a b : Tm) → o ≡ Some s → has_sort S added scope s a ≡ true
     → has_sort S added scope s b ≡ true → have_one_sort S added scope o a b ≡ true
 of_one S added scope o s a b e h k =
-    subst (λ x. have_one_sort S added scope x a b ≡ true) (sym e) (both (has_sort S added scope s a) (has_sort S added scope s b) h k)
+    subst (λ x. have_one_sort S added scope x a b ≡ true) (sym e) (and_from (has_sort S added scope s a) (has_sort S added scope s b) h k)
 
 over_sorts : (S : Signature) (added : List NewConst) (scope : List ℕ) (o : Option (List ℕ)) (ts : Tms)
     → (at_sorts S added scope o ts ≡ true) ↔ ((sorts : List ℕ) × (o ≡ Some sorts) × (have_sorts S added scope sorts ts ≡ true))
@@ -218,8 +212,8 @@ atom_exact (Rel r ts) S one added scope = over_sorts S added scope (slice_get S.
 
 below_and : (s n : ℕ) (b : Bool) (P : Type 0) → (b ≡ true) ↔ P → (ltb s n && b ≡ true) ↔ ((s < n) × P)
 below_and s n b P e = (
-  (λ h. let r = and_both (ltb s n) b h in (ltb-true s n r.0, e.0 r.1)),
-  λ p. both (ltb s n) b (lt-ltb s n p.0) (e.1 p.1),
+  (λ h. let r = and_parts (ltb s n) b h in (ltb-true s n r.0, e.0 r.1)),
+  λ p. and_from (ltb s n) b (lt-ltb s n p.0) (e.1 p.1),
 )
 
 mutual
@@ -239,8 +233,8 @@ mutual
   all_sorts_exact (also_fm f fs) S one added scope =
       let a = sorts_exact f S one added scope in
       let b = all_sorts_exact fs S one added scope in (
-        (λ h. let r = and_both (sort_test S added scope f) (sort_tests S added scope fs) h in (a.0 r.0, b.0 r.1)),
-        λ p. both (sort_test S added scope f) (sort_tests S added scope fs) (a.1 p.0) (b.1 p.1),
+        (λ h. let r = and_parts (sort_test S added scope f) (sort_tests S added scope fs) h in (a.0 r.0, b.0 r.1)),
+        λ p. and_from (sort_test S added scope f) (sort_tests S added scope fs) (a.1 p.0) (b.1 p.1),
       )
 
 -- # Over a signature of the code
@@ -249,9 +243,9 @@ pub kept_ones : (sig : Sig) → HasOneIntAndStr (sig_view sig)
 kept_ones sig =
     let S = sig_view sig in
     let most : Bool = are_of_sorts (length S.sorts) S.consts S.fns S.rels S.cons && has_one_int_and_str S.sorts in
-    let a = and_both (most && list_their_own S.cons 0 S.sorts) (are_listed S.sorts 0 S.cons) sig.kept in
-    let b = and_both most (list_their_own S.cons 0 S.sorts) a.0 in
-    ones S (and_both (are_of_sorts (length S.sorts) S.consts S.fns S.rels S.cons) (has_one_int_and_str S.sorts) b.0).1
+    let a = and_parts (most && list_their_own S.cons 0 S.sorts) (are_listed S.sorts 0 S.cons) sig.kept in
+    let b = and_parts most (list_their_own S.cons 0 S.sorts) a.0 in
+    ones S (and_parts (are_of_sorts (length S.sorts) S.consts S.fns S.rels S.cons) (has_one_int_and_str S.sorts) b.0).1
 
 pub well_sorted_exact : (sig : Sig) (b : Bool) (f : Fm) → b ≡ sort_test (sig_view sig) [] [] f → (b ≡ true) ↔ IsWellSorted (sig_view sig) f
 well_sorted_exact sig b f e =

@@ -1,8 +1,8 @@
+pub mod Constants
 pub mod Dual
 pub mod Elements
 pub mod Formulas
 pub mod Instance
-pub mod Rows
 pub mod Scopes
 pub mod Signatures
 pub mod SigView
@@ -12,3 +12,5 @@ pub mod Structures
 pub mod Terms
 pub mod Truth
 pub mod Views
+pub mod means
+pub mod rows

@@ -1,11 +1,10 @@
 -- Sorts, tested: a term is tested at the only sort that one of its form can have.
-use Rattle.std.specs.Prelude.{ℕ, Bool, true, false, ◌&&◌, nat_lt, List, ◌∷◌, length, slice_get, Option, Some, None}
+use Rattle.std.specs.Prelude.{ℕ, Bool, false, ◌&&◌, List, slice_get, Option, Some, None}
 use Rattle.std.specs.List.{position_from}
 use Rattle.rp_logic.specs.declared.sort.FnDecl.{FnDecl}
 use Rattle.rp_logic.specs.declared.sort.LogicCon.{LogicCon}
 use Rattle.rp_logic.specs.declared.sort.NewConst.{NewConst}
 use Rattle.rp_logic.specs.Terms.{Tm, Var, Const, Fn, Int, Str, Con, Sel, Plus, Tms, At, Equal, Le, Rel}
-use Rattle.rp_logic.specs.Formulas.{Fm, And, Or, All, Ex, Lit, Fms, no_fm, also_fm}
 use Rattle.rp_logic.specs.Signatures.{Signature, is_int, is_str, fields_of}
 use Rattle.rp_logic.specs.Sorted.{const_sort, has_sort, have_sorts}
 
@@ -48,15 +47,3 @@ abbrev pub atom_test : Signature → List NewConst → List ℕ → At → Bool
 atom_test S added scope (Equal a b) = have_one_sort S added scope (head_sort S added scope a) a b
 atom_test S added scope (Le a b k) = have_one_sort S added scope (int_sort S) a b
 atom_test S added scope (Rel r args) = at_sorts S added scope (slice_get S.rels r) args
-
-abbrev mutual
-  pub sort_test : Signature → List NewConst → List ℕ → Fm → Bool
-  sort_test S added scope (And parts) = sort_tests S added scope parts
-  sort_test S added scope (Or parts) = sort_tests S added scope parts
-  sort_test S added scope (All sort body) = nat_lt sort (length S.sorts) && sort_test S added (sort ∷ scope) body
-  sort_test S added scope (Ex sort body) = nat_lt sort (length S.sorts) && sort_test S added (sort ∷ scope) body
-  sort_test S added scope (Lit sign atom) = atom_test S added scope atom
-
-  pub sort_tests : Signature → List NewConst → List ℕ → Fms → Bool
-  sort_tests S added scope no_fm = true
-  sort_tests S added scope (also_fm f fs) = sort_test S added scope f && sort_tests S added scope fs

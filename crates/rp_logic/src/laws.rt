@@ -1,15 +1,15 @@
 //! Laws of the definitions, as functions with nothing to run.
-ghost use Rattle.std.specs.Prelude.{IsTrue, ℕ, List, [], ◌∷◌};
+ghost use Rattle.std.specs.Prelude.{◌≡◌, ◌↔◌, IsTrue, ℕ, true, List, [], ◌∷◌, ◌++◌};
 ghost use Rattle.rp_logic.specs.Terms.{Tm, is_closed};
 ghost use Rattle.rp_logic.specs.Formulas.{Fm, Or, no_fm, also_fm};
 ghost use Rattle.rp_logic.specs.Signatures.{Signature};
-ghost use Rattle.rp_logic.specs.Sorted.{has_sort};
-ghost use Rattle.rp_logic.specs.Elements.{Elem};
+ghost use Rattle.rp_logic.specs.Sorted.{has_sort, IsSorted};
+ghost use Rattle.rp_logic.specs.Elements.{Elem, same_elem};
+ghost use Rattle.rp_logic.specs.Constants.{formula_lacks, with_value};
 ghost use Rattle.rp_logic.specs.Structures.{Structure, Fits, Is};
 ghost use Rattle.rp_logic.specs.Instance.{instance};
 ghost use Rattle.rp_logic.specs.Dual.{dual};
 ghost use Rattle.rp_logic.specs.Truth.{Meaning, meaning_with, value, Holds, IsInstance, IsDenial};
-ghost use Rattle.rp_logic.specs.Rows as rows;
 
 use crate::sort::NewConst;
 
@@ -36,8 +36,21 @@ pub fn closed_terms_have_values()
         → Fits S M consts added → IsTrue (has_sort S added [] s t) → Is S M s (value (meaning_with S M consts) [] t) }
 {}
 
-/// Sorts may be empty, and those of constants aren't.
-pub fn worked_rows()
-    ensures empty_sort { rows.EmptySort }
-    ensures sort_of_a_constant { rows.SortOfAConstant }
+/// The test for equal elements is exact.
+pub fn equal_elements_pass()
+    ensures { (x y : Elem) → (same_elem x y ≡ true) ↔ (x ≡ y) }
+{}
+
+/// An instance by a closed term of the variable's sort is well sorted where the quantifier's body is.
+pub fn instances_are_sorted()
+    ensures { (S : Signature) (added : List NewConst) (scope : List ℕ) (sort : ℕ) (t : Tm) (body : Fm)
+        → IsTrue (has_sort S added [] sort t) → IsSorted S added (sort ∷ scope) body → IsSorted S added scope (instance t body) }
+{}
+
+/// A constant that stands nowhere in a formula may have any value and any sort.
+pub fn unused_constants_are_free()
+    ensures value { (S : Signature) (M : Structure) (consts : ℕ → Elem) (c : ℕ) (v : Elem) (vars : List Elem) (f : Fm) → formula_lacks c f ≡ true
+        → Holds (meaning_with S M (with_value consts c v)) vars f ↔ Holds (meaning_with S M consts) vars f }
+    ensures sort { (S : Signature) (added : List NewConst) (new : NewConst) (scope : List ℕ) (f : Fm) → formula_lacks new.number f ≡ true
+        → IsSorted S added scope f → IsSorted S (added ++ new ∷ []) scope f }
 {}

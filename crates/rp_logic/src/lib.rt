@@ -6,6 +6,7 @@ mod formula;
 mod kept;
 mod laws;
 mod negation;
+pub mod rows;
 mod scope;
 mod sig;
 mod sort;
@@ -16,8 +17,8 @@ mod term;
 pub use atom::Atom;
 pub use formula::{Fml, copy_formulas};
 pub use laws::{
-    closed_terms_have_values, dual_is_the_denial, instance_means_its_body, truth_is_classical,
-    worked_rows,
+    closed_terms_have_values, dual_is_the_denial, equal_elements_pass, instance_means_its_body,
+    instances_are_sorted, truth_is_classical, unused_constants_are_free,
 };
 pub use negation::negate;
 pub use scope::Scope;
@@ -26,4 +27,3 @@ pub use sort::{FnDecl, LogicCon, NewConst, Sort};
 pub use sorted::{has_sort, head_sort, is_sorted_atom, well_sorted};
 pub use substitution::substitute;
 pub use term::{Term, copy_terms, same_terms};
-

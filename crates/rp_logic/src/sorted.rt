@@ -4,6 +4,7 @@ ghost use Rattle.rp_logic.specs.SigView.{sig_view};
 ghost use Rattle.rp_logic.specs.Scopes.{scope_view};
 ghost use Rattle.rp_logic.specs.Sorted as spec;
 ghost use Rattle.rp_logic.specs.SortTests as test;
+ghost use Rattle.rp_logic.specs.means.FormulaTests.{sort_test, sort_tests};
 ghost use Rattle.rp_logic.specs.Views.{term_view, terms_view, atom_view, formula_view, formulas_view};
 
 use crate::atom::Atom;
@@ -23,7 +24,7 @@ pub fn well_sorted(sig: &Sig, f: &Fml) -> bool
 #[cycle(is_sorted)]
 #[tactic(auto, using(crate::proofs::FormulaViews::formula_views, crate::proofs::ScopeViews::scope_views))]
 fn is_sorted(sig: &Sig, added: &[NewConst], scope: &Scope, f: &Fml) -> bool
-    ensures { result ≡ test.sort_test (sig_view sig.now) added.now (scope_view scope.now) (formula_view f.now) }
+    ensures { result ≡ sort_test (sig_view sig.now) added.now (scope_view scope.now) (formula_view f.now) }
 {
     match f {
         Fml::And(parts) | Fml::Or(parts) => are_sorted(sig, added, scope, parts.as_slice()),
@@ -36,7 +37,7 @@ fn is_sorted(sig: &Sig, added: &[NewConst], scope: &Scope, f: &Fml) -> bool
 #[cycle(is_sorted)]
 #[tactic(auto, using(crate::proofs::FormulaViews::formula_views, crate::proofs::ScopeViews::scope_views))]
 fn are_sorted(sig: &Sig, added: &[NewConst], scope: &Scope, formulas: &[Fml]) -> bool
-    ensures { result ≡ test.sort_tests (sig_view sig.now) added.now (scope_view scope.now) (formulas_view formulas.now) }
+    ensures { result ≡ sort_tests (sig_view sig.now) added.now (scope_view scope.now) (formulas_view formulas.now) }
 {
     for f in formulas {
         if !is_sorted(sig, added, scope, f) {

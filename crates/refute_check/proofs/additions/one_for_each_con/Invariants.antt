@@ -3,7 +3,7 @@ use Rattle.rp_logic.specs.SigView.{sig_view}
 use Rattle.rp_logic.specs.Views.{term_view}
 use Rattle.refute_defs.specs.Branches.{formula_alone}
 use Rattle.refute_defs.specs.Parts.{built_with}
-use Rattle.refute_check.specs.Added.{addition_view}
+use Rattle.refute_check.specs.means.Added.{addition_view}
 use Rattle.refute_check.proofs.additions.one_for_each_con.Given as goal
 
 abbrev pub invariant-loop-con : goal.invariant-loop-con

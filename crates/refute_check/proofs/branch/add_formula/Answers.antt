@@ -1,6 +1,6 @@
 use Rattle.std.proofs.Common.{◌∙◌, ap, length, reverse}
 use Rattle.rp_logic.specs.Views.{formula_view}
-use Rattle.refute_check.specs.Marks.{with_formula}
+use Rattle.refute_check.specs.means.Marks.{with_formula}
 use Rattle.refute_check.proofs.MarkedBranches.{formula_marked}
 use Rattle.refute_check.proofs.branch.add_formula.Goals as goal
 

@@ -1,6 +1,6 @@
 use Rattle.std.proofs.Common.{arith, refl, get_or}
 use Rattle.std.proofs.lemmas.Option.{slice_get-get_or, slice_get_read}
-use Rattle.refute_check.specs.Lent.{branch_view}
+use Rattle.refute_check.specs.means.Lent.{branch_view}
 use Rattle.refute_check.proofs.Sides.{side_pushed, sides_done}
 use Rattle.refute_check.proofs.congruences.other_sides.Goals as goal
 

@@ -1,7 +1,7 @@
 use Rattle.std.proofs.Common.{◌≡◌, drop, map, option_map}
 use Rattle.rp_logic.specs.Views.{term_view, terms_view}
 use Rattle.refute_defs.specs.Children.{other_sides}
-use Rattle.refute_check.specs.Lent.{branch_view}
+use Rattle.refute_check.specs.means.Lent.{branch_view}
 use Rattle.refute_check.proofs.Sides.{before}
 use Rattle.refute_check.proofs.congruences.other_sides.Given as goal
 

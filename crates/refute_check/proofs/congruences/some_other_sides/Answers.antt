@@ -1,6 +1,6 @@
 use Rattle.std.proofs.Common.{◌≡◌, IfOk, Some, subst, sym, ◌∙◌}
 use Rattle.rp_logic.specs.Views.{terms_view}
-use Rattle.refute_check.specs.Lent.{branch_view}
+use Rattle.refute_check.specs.means.Lent.{branch_view}
 use Rattle.refute_check.proofs.Sides.{some_sides}
 use Rattle.refute_check.proofs.congruences.some_other_sides.Goals as goal
 

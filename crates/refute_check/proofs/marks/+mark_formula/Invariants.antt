@@ -1,6 +1,6 @@
 use Rattle.std.proofs.Common.{◌≡◌, drop, reverse}
 use Rattle.rp_logic.specs.Views.{formulas_view}
-use Rattle.refute_check.specs.Marks.{with_formulas}
+use Rattle.refute_check.specs.means.Marks.{with_formulas}
 use Rattle.refute_check.proofs.marks.+mark_formula.Given as goal
 
 abbrev pub invariant-mark_formulas-loop-f : goal.invariant-mark_formulas-loop-f

@@ -1,6 +1,6 @@
 use Rattle.std.proofs.Common.{◌≡◌, drop, reverse}
 use Rattle.rp_logic.specs.Views.{terms_view}
-use Rattle.refute_check.specs.Marks.{with_terms}
+use Rattle.refute_check.specs.means.Marks.{with_terms}
 use Rattle.refute_check.proofs.marks.+mark_term.Given as goal
 
 abbrev pub invariant-mark_terms-loop-t : goal.invariant-mark_terms-loop-t

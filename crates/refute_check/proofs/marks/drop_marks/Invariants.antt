@@ -1,5 +1,5 @@
 use Rattle.std.proofs.Common.{◌≡◌, length, reverse}
-use Rattle.refute_check.specs.Marks.{dropped}
+use Rattle.refute_check.specs.means.Marks.{dropped}
 use Rattle.refute_check.proofs.marks.drop_marks.Given as goal
 
 abbrev pub invariant-loop-marks : goal.invariant-loop-marks

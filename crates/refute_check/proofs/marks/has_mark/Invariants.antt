@@ -1,5 +1,5 @@
 use Rattle.std.proofs.Common.{◌≡◌, drop}
-use Rattle.refute_check.specs.Marks.{is_marked}
+use Rattle.refute_check.specs.means.Marks.{is_marked}
 use Rattle.refute_check.proofs.marks.has_mark.Given as goal
 
 abbrev pub invariant-loop-mark : goal.invariant-loop-mark

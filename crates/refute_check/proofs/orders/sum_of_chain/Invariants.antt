@@ -1,7 +1,7 @@
 use Rattle.std.proofs.Common.{◌≡◌, drop, pos}
 use Rattle.rp_logic.specs.Views.{term_view}
 use Rattle.refute_defs.specs.Children.{chain}
-use Rattle.refute_check.specs.Lent.{branch_view}
+use Rattle.refute_check.specs.means.Lent.{branch_view}
 use Rattle.refute_check.proofs.orders.sum_of_chain.Given as goal
 
 abbrev pub invariant-loop-p : goal.invariant-loop-p

@@ -1,5 +1,5 @@
 use Rattle.std.proofs.Common.{◌≡◌, [], take}
-use Rattle.refute_check.specs.Marks.{HasMarks}
+use Rattle.refute_check.specs.means.Marks.{HasMarks}
 use Rattle.refute_check.proofs.walk.start.Given as goal
 
 abbrev pub invariant-loop-f : goal.invariant-loop-f

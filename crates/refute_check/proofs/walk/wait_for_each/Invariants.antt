@@ -1,5 +1,5 @@
 use Rattle.std.proofs.Common.{◌≡◌, ◌++◌, map, reverse, length}
-use Rattle.refute_check.specs.Waits.{wait}
+use Rattle.refute_check.specs.means.Waits.{wait}
 use Rattle.refute_check.proofs.walk.wait_for_each.Given as goal
 
 abbrev pub invariant-loop-addition : goal.invariant-loop-addition

@@ -1,7 +1,7 @@
 use Rattle.std.proofs.Common.{◌≡◌, drop}
 use Rattle.rp_logic.specs.SigView.{sig_view}
 use Rattle.rp_logic.specs.Scopes.{scope_view}
-use Rattle.rp_logic.specs.SortTests.{sort_tests}
+use Rattle.rp_logic.specs.means.FormulaTests.{sort_tests}
 use Rattle.rp_logic.specs.Views.{formulas_view}
 use Rattle.rp_logic.proofs.sorted.+is_sorted.Given as goal
 

@@ -1,6 +1,6 @@
 use Rattle.std.proofs.Common.{[], ◌∙◌, ap}
 use Rattle.rp_logic.specs.SigView.{sig_view}
-use Rattle.rp_logic.specs.SortTests.{sort_test}
+use Rattle.rp_logic.specs.means.FormulaTests.{sort_test}
 use Rattle.rp_logic.specs.Views.{formula_view}
 use Rattle.rp_logic.proofs.ScopeViews.{scope_view-Closed}
 use Rattle.rp_logic.proofs.SortLaws.{well_sorted_exact}

@@ -1,15 +1,15 @@
 -- A constant that stands nowhere changes no sort.
 use Rattle.std.proofs.Common.{◌≡◌, ℕ, ◌≤◌, List, [], ◌∷◌, ◌++◌, length, Bool, true, false, not, cond, eqb, ltb, sym, refl, ap, ◌∙◌, subst, slice_get, Option, Some, None, eq-eqb, ltb-true, arith}
 use Rattle.std.specs.Option.{option_or}
+use Rattle.std.proofs.lemmas.Bool.{and_parts, and_from}
 use Rattle.rp_logic.specs.declared.sort.NewConst.{NewConst}
 use Rattle.rp_logic.specs.Terms.{Tm, Tms, Var, Const, Fn, Int, Str, Con, Sel, Plus, no_tm, also_tm, At, Equal, Le, Rel}
 use Rattle.rp_logic.specs.Formulas.{Fm, Fms, And, Or, All, Ex, Lit, no_fm, also_fm}
 use Rattle.rp_logic.specs.Signatures.{Signature, fields_of}
 use Rattle.rp_logic.specs.Sorted.{added_sort, is_sort, takes, sort_of_con, has_sort, have_sorts, IsNumber, IsSortedAtom, IsSorted, AreSorted}
-use Rattle.rp_logic.proofs.InstanceLaws.{and_both}
-use Rattle.rp_logic.proofs.SortLaws.{no, both, or_assoc}
-use Rattle.refute_defs.specs.Constants.{lacks, all_lack, atom_lacks, formula_lacks, formulas_lack, each_lacks}
-use Rattle.refute_defs.proofs.EachSorted.{EachSorted}
+use Rattle.rp_logic.proofs.SortLaws.{no, or_assoc}
+use Rattle.rp_logic.specs.Constants.{lacks, all_lack, atom_lacks, formula_lacks, formulas_lack, each_lacks}
+use Rattle.rp_logic.proofs.EachSorted.{EachSorted}
 
 -- the last of the added constants counts
 or_found : (b : Bool) (s : ℕ) (o : Option ℕ)
@@ -48,19 +48,19 @@ mutual
   sort_new (Const d) S added new scope s l h =
       unchanged (ltb d (length S.consts)) (eqb new.number d) (slice_get S.consts d) (added_sort added d) (added_sort (added ++ new ∷ []) d) new.sort s l (last_counts added new d) h
   sort_new (Fn f ts) S added new scope s l h =
-      let b = and_both _ _ h in
-      both _ _ b.0 (sorts_new ts S added new scope (takes (slice_get S.fns f)) l b.1)
+      let b = and_parts _ _ h in
+      and_from _ _ b.0 (sorts_new ts S added new scope (takes (slice_get S.fns f)) l b.1)
   sort_new (Int z) S added new scope s l h = h
   sort_new (Str y) S added new scope s l h = h
   sort_new (Con d ts) S added new scope s l h =
-      let b = and_both _ _ h in
-      both _ _ b.0 (sorts_new ts S added new scope (fields_of (slice_get S.cons d)) l b.1)
+      let b = and_parts _ _ h in
+      and_from _ _ b.0 (sorts_new ts S added new scope (fields_of (slice_get S.cons d)) l b.1)
   sort_new (Sel d i t) S added new scope s l h =
-      let b = and_both _ _ h in
-      both _ _ b.0 (sort_new t S added new scope (sort_of_con (slice_get S.cons d)) l b.1)
+      let b = and_parts _ _ h in
+      and_from _ _ b.0 (sort_new t S added new scope (sort_of_con (slice_get S.cons d)) l b.1)
   sort_new (Plus t z) S added new scope s l h =
-      let b = and_both _ _ h in
-      both _ _ b.0 (sort_new t S added new scope s l b.1)
+      let b = and_parts _ _ h in
+      and_from _ _ b.0 (sort_new t S added new scope s l b.1)
 
   pub sorts_new : (ts : Tms) (S : Signature) (added : List NewConst) (new : NewConst) (scope : List ℕ) (ss : List ℕ)
       → all_lack new.number ts ≡ true → have_sorts S added scope ss ts ≡ true
@@ -69,9 +69,9 @@ mutual
   sorts_new no_tm S added new scope (s ∷ ss) l h = h
   sorts_new (also_tm t ts) S added new scope [] l h = h
   sorts_new (also_tm t ts) S added new scope (s ∷ ss) l h =
-      let b = and_both _ _ h in
-      let d = and_both _ _ l in
-      both _ _ (sort_new t S added new scope s d.0 b.0) (sorts_new ts S added new scope ss d.1 b.1)
+      let b = and_parts _ _ h in
+      let d = and_parts _ _ l in
+      and_from _ _ (sort_new t S added new scope s d.0 b.0) (sorts_new ts S added new scope ss d.1 b.1)
 
 number_new : (t : Tm) (S : Signature) (added : List NewConst) (new : NewConst) (scope : List ℕ)
     → lacks new.number t ≡ true → IsNumber S added scope t → IsNumber S (added ++ new ∷ []) scope t
@@ -81,10 +81,10 @@ atom_new : (a : At) (S : Signature) (added : List NewConst) (new : NewConst) (sc
     → atom_lacks new.number a ≡ true → IsSortedAtom S added scope a
     → IsSortedAtom S (added ++ new ∷ []) scope a
 atom_new (Equal a b) S added new scope l h =
-    let d = and_both _ _ l in
+    let d = and_parts _ _ l in
     (h.0, sort_new a S added new scope h.0 d.0 h.1, sort_new b S added new scope h.0 d.1 h.2)
 atom_new (Le a b k) S added new scope l h =
-    let d = and_both _ _ l in
+    let d = and_parts _ _ l in
     (number_new a S added new scope d.0 h.0, number_new b S added new scope d.1 h.1)
 atom_new (Rel q ts) S added new scope l h = (h.0, h.1, sorts_new ts S added new scope h.0 l h.2)
 
@@ -103,13 +103,13 @@ mutual
       → AreSorted S (added ++ new ∷ []) scope fs
   formulas_new no_fm S added new scope l h = tt
   formulas_new (also_fm f fs) S added new scope l h =
-      let d = and_both _ _ l in (formula_new f S added new scope d.0 h.0, formulas_new fs S added new scope d.1 h.1)
+      let d = and_parts _ _ l in (formula_new f S added new scope d.0 h.0, formulas_new fs S added new scope d.1 h.1)
 
 pub each_new : (fs : List Fm) (S : Signature) (added : List NewConst) (new : NewConst)
     → each_lacks new.number fs ≡ true → EachSorted S added fs → EachSorted S (added ++ new ∷ []) fs
 each_new [] S added new l h = tt
 each_new (f ∷ fs) S added new l h =
-    let d = and_both _ _ l in (formula_new f S added new [] d.0 h.0, each_new fs S added new d.1 h.1)
+    let d = and_parts _ _ l in (formula_new f S added new [] d.0 h.0, each_new fs S added new d.1 h.1)
 
 pub new_has_sort : (S : Signature) (added : List NewConst) (new : NewConst)
     → length S.consts ≤ new.number

@@ -8,7 +8,7 @@ use Rattle.refute_defs.specs.Children.{children}
 use Rattle.refute_check.specs.declared.additions.Addition.{Addition}
 use Rattle.refute_check.specs.declared.branch.OpenBranch.{OpenBranch}
 use Rattle.refute_check.specs.declared.walk.Waiting.{Waiting}
-use Rattle.refute_check.specs.Added.{addition_view}
+use Rattle.refute_check.specs.means.Added.{addition_view}
 
 -- the first formulas and constants of the branch, and what is added to them
 abbrev pub waiting_branch : Branch → Waiting → Branch

@@ -1,17 +1,13 @@
 -- A constant that stands nowhere may mean anything.
 use Rattle.std.proofs.Common.{◌≡◌, ℕ, List, [], ◌∷◌, Bool, true, false, not, cond, ◌+ℤ◌, eqb, ◌↔◌, sym, refl, ap, ap₂, ◌∙◌, true≢false, slice_get}
+use Rattle.std.proofs.lemmas.Bool.{and_parts}
 use Rattle.rp_logic.specs.Terms.{Tm, Tms, Var, Const, Fn, Int, Str, Con, Sel, Plus, no_tm, also_tm, At, Equal, Le, Rel}
 use Rattle.rp_logic.specs.Formulas.{Fm, Fms, And, Or, All, Ex, Lit, no_fm, also_fm}
 use Rattle.rp_logic.specs.Signatures.{Signature}
 use Rattle.rp_logic.specs.Elements.{Elem, Whole, Made, also_elem}
 use Rattle.rp_logic.specs.Structures.{Structure, apply, number_of, select}
 use Rattle.rp_logic.specs.Truth.{Meaning, meaning_with, value, values, atom_truth, Holds, AllHold, NoneHolds, AllTrue}
-use Rattle.rp_logic.proofs.InstanceLaws.{and_both}
-use Rattle.refute_defs.specs.Constants.{lacks, all_lack, atom_lacks, formula_lacks, formulas_lack, each_lacks}
-
--- the constants with another value at c
-abbrev pub with_value : (ℕ → Elem) → ℕ → Elem → ℕ → Elem
-with_value k c v d = cond (eqb c d) v (k d)
+use Rattle.rp_logic.specs.Constants.{lacks, all_lack, atom_lacks, formula_lacks, formulas_lack, each_lacks, with_value}
 
 other : (b : Bool) (x y : Elem) → not b ≡ true → cond b x y ≡ y
 other true x y h = absurd (true≢false (sym h))
@@ -40,16 +36,16 @@ module _ (S : Signature) (M : Structure) (k : ℕ → Elem) (c : ℕ) (v : Elem)
         → values new_meaning e ts ≡ values old_meaning e ts
     values_lack no_tm e h = refl
     values_lack (also_tm t ts) e h =
-        let b = and_both _ _ h in
+        let b = and_parts _ _ h in
         ap₂ also_elem (value_lacks t e b.0) (values_lack ts e b.1)
 
   pub atom_truth_lacks : (a : At) (e : List Elem) → atom_lacks c a ≡ true
       → atom_truth new_meaning e a ≡ atom_truth old_meaning e a
   atom_truth_lacks (Equal a b) e h =
-      let d = and_both _ _ h in
+      let d = and_parts _ _ h in
       rw (value_lacks a e d.0) rw (value_lacks b e d.1) refl
   atom_truth_lacks (Le a b z) e h =
-      let d = and_both _ _ h in
+      let d = and_parts _ _ h in
       rw (value_lacks a e d.0) rw (value_lacks b e d.1) refl
   atom_truth_lacks (Rel r ts) e h = rw (values_lack ts e h) refl
 
@@ -73,7 +69,7 @@ module _ (S : Signature) (M : Structure) (k : ℕ → Elem) (c : ℕ) (v : Elem)
         → (AllHold new_meaning e fs ↔ AllHold old_meaning e fs) × (NoneHolds new_meaning e fs ↔ NoneHolds old_meaning e fs)
     truths_lack no_fm e h = (((λ t. tt), λ t. tt), ((λ t. tt), λ t. tt))
     truths_lack (also_fm f fs) e h =
-        let d = and_both _ _ h in
+        let d = and_parts _ _ h in
         let a = truth_lacks f e d.0 in
         let b = truths_lack fs e d.1 in (
           ((λ t. (a.0 t.0, b.0.0 t.1)), λ t. (a.1 t.0, b.0.1 t.1)),
@@ -84,5 +80,5 @@ module _ (S : Signature) (M : Structure) (k : ℕ → Elem) (c : ℕ) (v : Elem)
       → AllTrue new_meaning fs
   branch_holds [] h t = tt
   branch_holds (f ∷ fs) h t =
-      let d = and_both _ _ h in
+      let d = and_parts _ _ h in
       ((truth_lacks f [] d.0).1 t.0, branch_holds fs d.1 t.1)

@@ -1,13 +1,13 @@
 -- An instance by a closed term of the variable's sort is well sorted.
 use Rattle.std.proofs.Common.{◌≡◌, ℕ, zero, suc, pred, ◌<◌, List, [], ◌∷◌, ◌++◌, length, Bool, true, false, cond, eqb, ltb, sym, refl, ap, ◌∙◌, subst, slice_get, Some, eqb-true, ltb-true, arith, ltb-false}
+use Rattle.std.proofs.lemmas.Bool.{and_parts, and_from}
 use Rattle.rp_logic.specs.declared.sort.NewConst.{NewConst}
 use Rattle.rp_logic.specs.Terms.{Tm, Tms, Var, Const, Fn, Int, Str, Con, Sel, Plus, no_tm, also_tm, At, Equal, Le, Rel}
 use Rattle.rp_logic.specs.Formulas.{Fm, Fms, And, Or, All, Ex, Lit, no_fm, also_fm}
 use Rattle.rp_logic.specs.Signatures.{Signature, fields_of}
 use Rattle.rp_logic.specs.Sorted.{is_sort, takes, sort_of_con, has_sort, have_sorts, IsNumber, IsSortedAtom, IsSorted, AreSorted}
 use Rattle.rp_logic.specs.Instance.{put, put_each, put_atom, instance_at, instances_at}
-use Rattle.rp_logic.proofs.InstanceLaws.{and_both}
-use Rattle.rp_logic.proofs.SortLaws.{no, both}
+use Rattle.rp_logic.proofs.SortLaws.{no}
 
 -- # A closed term has its sort under any variables
 
@@ -17,19 +17,19 @@ mutual
   weaken (Var n) S added scope s h = no h
   weaken (Const c) S added scope s h = h
   weaken (Fn f ts) S added scope s h =
-      let b = and_both _ _ h in
-      both _ _ b.0 (weakens ts S added scope (takes (slice_get S.fns f)) b.1)
+      let b = and_parts _ _ h in
+      and_from _ _ b.0 (weakens ts S added scope (takes (slice_get S.fns f)) b.1)
   weaken (Int z) S added scope s h = h
   weaken (Str y) S added scope s h = h
   weaken (Con c ts) S added scope s h =
-      let b = and_both _ _ h in
-      both _ _ b.0 (weakens ts S added scope (fields_of (slice_get S.cons c)) b.1)
+      let b = and_parts _ _ h in
+      and_from _ _ b.0 (weakens ts S added scope (fields_of (slice_get S.cons c)) b.1)
   weaken (Sel c i t) S added scope s h =
-      let b = and_both _ _ h in
-      both _ _ b.0 (weaken t S added scope (sort_of_con (slice_get S.cons c)) b.1)
+      let b = and_parts _ _ h in
+      and_from _ _ b.0 (weaken t S added scope (sort_of_con (slice_get S.cons c)) b.1)
   weaken (Plus t z) S added scope s h =
-      let b = and_both _ _ h in
-      both _ _ b.0 (weaken t S added scope s b.1)
+      let b = and_parts _ _ h in
+      and_from _ _ b.0 (weaken t S added scope s b.1)
 
   pub weakens : (ts : Tms) (S : Signature) (added : List NewConst) (scope : List ℕ) (ss : List ℕ)
       → have_sorts S added [] ss ts ≡ true → have_sorts S added scope ss ts ≡ true
@@ -37,8 +37,8 @@ mutual
   weakens no_tm S added scope (s ∷ ss) h = h
   weakens (also_tm t ts) S added scope [] h = h
   weakens (also_tm t ts) S added scope (s ∷ ss) h =
-      let b = and_both _ _ h in
-      both _ _ (weaken t S added scope s b.0) (weakens ts S added scope ss b.1)
+      let b = and_parts _ _ h in
+      and_from _ _ (weaken t S added scope s b.0) (weakens ts S added scope ss b.1)
 
 -- # A closed term in place of a variable keeps the sort
 
@@ -80,20 +80,20 @@ mutual
       put_var n S added es scope r s t g h (ltb n (length es)) (eqb n (length es)) refl refl
   put_sort (Const c) S added es scope r s t g h = h
   put_sort (Fn f us) S added es scope r s t g h =
-      let b = and_both _ _ h in
-      both _ _ b.0 (put_sorts us S added es scope r (takes (slice_get S.fns f)) t g b.1)
+      let b = and_parts _ _ h in
+      and_from _ _ b.0 (put_sorts us S added es scope r (takes (slice_get S.fns f)) t g b.1)
   put_sort (Int z) S added es scope r s t g h = h
   put_sort (Str y) S added es scope r s t g h = h
   put_sort (Con c us) S added es scope r s t g h =
-      let b = and_both _ _ h in
-      both _ _ b.0 (put_sorts us S added es scope r (fields_of (slice_get S.cons c)) t g b.1)
+      let b = and_parts _ _ h in
+      and_from _ _ b.0 (put_sorts us S added es scope r (fields_of (slice_get S.cons c)) t g b.1)
   put_sort (Sel c i u) S added es scope r s t g h =
       let d = sort_of_con (slice_get S.cons c) in
-      let b = and_both _ _ h in
-      both _ _ b.0 (put_sort u S added es scope r d t g b.1)
+      let b = and_parts _ _ h in
+      and_from _ _ b.0 (put_sort u S added es scope r d t g b.1)
   put_sort (Plus u z) S added es scope r s t g h =
-      let b = and_both _ _ h in
-      both _ _ b.0 (put_sort u S added es scope r s t g b.1)
+      let b = and_parts _ _ h in
+      and_from _ _ b.0 (put_sort u S added es scope r s t g b.1)
 
   pub put_sorts : (us : Tms) (S : Signature) (added : List NewConst) (es scope : List ℕ) (r : ℕ) (ss : List ℕ) (t : Tm)
       → has_sort S added [] r t ≡ true → have_sorts S added (es ++ r ∷ scope) ss us ≡ true
@@ -102,8 +102,8 @@ mutual
   put_sorts no_tm S added es scope r (s ∷ ss) t g h = h
   put_sorts (also_tm u us) S added es scope r [] t g h = h
   put_sorts (also_tm u us) S added es scope r (s ∷ ss) t g h =
-      let b = and_both _ _ h in
-      both _ _ (put_sort u S added es scope r s t g b.0) (put_sorts us S added es scope r ss t g b.1)
+      let b = and_parts _ _ h in
+      and_from _ _ (put_sort u S added es scope r s t g b.0) (put_sorts us S added es scope r ss t g b.1)
 
 put_number : (u : Tm) (S : Signature) (added : List NewConst) (es scope : List ℕ) (r : ℕ) (t : Tm)
     → has_sort S added [] r t ≡ true → IsNumber S added (es ++ r ∷ scope) u

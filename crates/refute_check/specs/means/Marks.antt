@@ -5,7 +5,7 @@ use Rattle.rp_logic.specs.declared.sig.Sig.{Sig}
 use Rattle.rp_logic.specs.Terms.{Tm, Var, Const, Fn, Int, Str, Con, Sel, Plus, Tms, no_tm, also_tm, At, Equal, Le, Rel}
 use Rattle.rp_logic.specs.Formulas.{Fm, And, Or, All, Ex, Lit, Fms, no_fm, also_fm}
 use Rattle.rp_logic.specs.Views.{formula_view}
-use Rattle.refute_defs.specs.Constants.{each_lacks}
+use Rattle.rp_logic.specs.Constants.{each_lacks}
 use Rattle.refute_check.specs.declared.marks.Mark.{Mark}
 use Rattle.refute_check.specs.declared.branch.OpenBranch.{OpenBranch}
 

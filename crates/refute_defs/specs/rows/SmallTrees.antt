@@ -4,7 +4,7 @@ use Rattle.rp_logic.specs.declared.sort.Sort.TheVariants as sort
 use Rattle.rp_logic.specs.Terms.{Tm, Var, Const, Fn, Int, Con, Sel, no_tm, also_tm, At, Rel}
 use Rattle.rp_logic.specs.Formulas.{Fm, And, Or, All, Ex, Lit, no_fm, also_fm}
 use Rattle.rp_logic.specs.Signatures.{Signature}
-use Rattle.rp_logic.specs.Rows.{one_sort, both_ways}
+use Rattle.rp_logic.specs.rows.EmptySorts.{one_sort, both_ways}
 use Rattle.refute_defs.specs.Uses.{Use, Nd, Rule}
 use Rattle.refute_defs.specs.Parts.{at_most, equal}
 use Rattle.refute_defs.specs.Additions.{Addition, formula_alone}
