@@ -2,7 +2,6 @@
 use Rattle.std.proofs.Common.{◌≡◌, ◌≤◌, ◌+◌, ℕ, ℤ, max, Bool, true, false, cond, List, [], ◌∷◌, ◌++◌, map, Option, Some, None, refl, ap, ap₂, subst, sym, ◌∙◌, arith}
 use Rattle.std.proofs.lemmas.List.{map-append}
 use Rattle.std.specs.Prelude.{option_map, option_and_then}
-use Rattle.std.specs.Option.{option_or}
 use Rattle.rp_value.specs.declared.tables.ConTable.{ConTable}
 use Rattle.rp_grammar.specs.declared.operator.CompareOp.{CompareOp}
 use Rattle.rp_grammar.specs.declared.operator.CompareOp.TheVariants as compare
@@ -16,6 +15,7 @@ use Rattle.type_rules.specs.declared.kind.Kind.{Kind}
 use Rattle.type_rules.specs.declared.kind.Base.TheVariants as base
 use Rattle.type_rules.specs.Names.{Name, Names, same_name, text_of, param_name, param_type, con_name, con_fields}
 use Rattle.type_rules.specs.Kinds.{plain_kind, kind_of, param_kinds}
+use Rattle.type_rules.specs.Paths.{Member, is_operation}
 use Rattle.type_rules.specs.Accesses.{Access, access_of, proc_params, proc_result, result_args}
 use Rattle.type_rules.specs.Matches.{first_kind, other_kinds}
 use Rattle.desugaring.specs.Objects.{PathOp, PathQuery, Root, Reached, follow, keys_on, is_op_at, is_query_at}
@@ -219,22 +219,23 @@ asked_goes false k = refl
 query_goes : (q : ℕ × PathQuery) → called_depths (callee.query_called q) ≡ callee.query_called q
 query_goes q = ap (callee.taking (keys_on q.1.path) q.1.own.args) (asked_goes (is_get q.1.own.kind) q.0)
 
-or_goes : (o : Option (ℕ × PathOp)) (p : Option (ℕ × PathQuery))
-    → option_map called_depths (option_or (option_map callee.op_called o) (option_map callee.query_called p))
-    ≡ option_or (option_map callee.op_called o) (option_map callee.query_called p)
-or_goes (Some o) p = refl
-or_goes None p = map_goes called_depths (λ q. q) callee.query_called callee.query_called p p (same_option p) query_goes
+either_goes : (is_op : Bool) (o : Option (ℕ × PathOp)) (p : Option (ℕ × PathQuery))
+    → option_map called_depths (cond is_op (option_map callee.op_called o) (option_map callee.query_called p))
+    ≡ cond is_op (option_map callee.op_called o) (option_map callee.query_called p)
+either_goes true o p = map_goes called_depths (λ q. q) callee.op_called callee.op_called o o (same_option o) (λ q. refl)
+either_goes false o p = map_goes called_depths (λ q. q) callee.query_called callee.query_called p p (same_option p) query_goes
 
-member_goes : (t : Tables) (root : ℕ) (r : Reached)
-    → option_map called_depths (callee.member_at t root r) ≡ callee.member_at t root r
-member_goes t root r = or_goes (callee.located (is_op_at root r) t.ops) (callee.located (is_query_at root r) t.queries)
+member_goes : (t : Tables) (m : Member) (root : ℕ) (r : Reached)
+    → option_map called_depths (callee.member_at t m root r) ≡ callee.member_at t m root r
+member_goes t m root r =
+    either_goes (is_operation m.does) (callee.located (is_op_at root r) t.ops) (callee.located (is_query_at root r) t.queries)
 
-root_goes : (t : Tables) (steps : StepTrees) (root : ℕ × Root)
-    → option_map called_depths (callee.on_root t steps root) ≡ callee.on_root t steps root
-root_goes t steps root =
-    then_goes called_depths (λ r. r) (callee.member_at t root.0) (callee.member_at t root.0)
-    (follow t.names steps (callee.form_of root.1.crdt)) _
-    (same_option _) (member_goes t root.0)
+root_goes : (t : Tables) (m : Member) (steps : StepTrees) (root : ℕ × Root)
+    → option_map called_depths (callee.on_root t m steps root) ≡ callee.on_root t m steps root
+root_goes t m steps root =
+    then_goes called_depths (λ r. r) (callee.member_at t m root.0) (callee.member_at t m root.0)
+    (follow t.names steps root.1.crdt) _
+    (same_option _) (member_goes t m root.0)
 
 numbered_goes : (keys args : List Kind) (f : ℕ → Callee Ex) (g : ℕ → Callee ℕ) (o : Option ℕ)
     → ((k : ℕ) → callee_depths (f k) ≡ g k)
@@ -251,7 +252,7 @@ access_goes t vs x steps Access.unknown = refl
 access_goes t vs x steps (Access.misfit at) = refl
 access_goes t vs x steps (Access.variable v) =
     map_goes called_depths shade_of (λ s. callee.taking [] [] (variable s.known)) (λ s. callee.taking [] [] (variable s.known))
-    (stand_named vs v.name) (stand_named (shades vs) v.name) (named_goes vs v.name) (λ s. refl)
+    (stand_named vs (text_of x)) (stand_named (shades vs) (text_of x)) (named_goes vs (text_of x)) (λ s. refl)
 access_goes t vs x steps (Access.constructor type c) =
     numbered_goes [] (param_kinds t.names (con_fields c)) constructor constructor
     (con_number t (plain_kind (base.Declared type)) (text_of (con_name c))) (λ k. refl)
@@ -261,9 +262,9 @@ access_goes t vs x steps (Access.procedure p) =
 access_goes t vs x steps (Access.returned p) =
     numbered_goes [] (result_args t.names (proc_result p)) outcome outcome (proc_number t (proc_name p)) (λ k. refl)
 access_goes t vs x steps (Access.member m) =
-    then_goes called_depths (λ r. r) (callee.on_root t steps) (callee.on_root t steps)
+    then_goes called_depths (λ r. r) (callee.on_root t m steps) (callee.on_root t m steps)
     (callee.located (λ root. same_name root.name (text_of x)) t.roots) _
-    (same_option _) (root_goes t steps)
+    (same_option _) (root_goes t m steps)
 
 pub called_goes : (t : Tables) (vs : Vars) (a : AccessTree)
     → option_map called_depths (callee.called t vs a) ≡ callee.called t (shades vs) a

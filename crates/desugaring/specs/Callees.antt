@@ -1,7 +1,7 @@
 -- What an access calls, by its number, with the types of the keys on its path and of its arguments.
-use Rattle.std.specs.Prelude.{ℕ, ◌+◌, Bool, true, List, [], ◌∷◌, map, find, position, Option, Some, None, option_map, option_and_then, if◌then◌else◌}
-use Rattle.std.specs.Option.{option_or, option_zip}
-use Rattle.rp_grammar.specs.Trees.{Ident, CrdtTree, CrdtForm, QueryTree, AccessTree, StepTrees}
+use Rattle.std.specs.Prelude.{ℕ, ◌+◌, Bool, true, List, [], map, find, position, Option, Some, None, option_map, option_and_then, if◌then◌else◌}
+use Rattle.std.specs.Option.{option_zip}
+use Rattle.rp_grammar.specs.Trees.{Ident, QueryTree, AccessTree, StepTrees}
 use Rattle.rp_lang.specs.Exprs.{Ex, Query, OpTerm, InfoTerm, ResultTerm, ResultWith, Exs, no_ex, also_ex}
 use Rattle.rp_lang.specs.Exprs as ex
 use Rattle.rp_lang.specs.Formulas.{Holds}
@@ -10,6 +10,7 @@ use Rattle.type_rules.specs.declared.kind.Kind.{Kind}
 use Rattle.type_rules.specs.declared.kind.Base.TheVariants as base
 use Rattle.type_rules.specs.Names.{Name, same_name, text_of, con_name, con_fields}
 use Rattle.type_rules.specs.Kinds.{plain_kind, param_kinds}
+use Rattle.type_rules.specs.Paths.{Member, is_operation}
 use Rattle.type_rules.specs.Accesses.{Var, Access, access_of, query_params, proc_params, proc_result, result_args}
 use Rattle.desugaring.specs.Objects.{PathOp, PathQuery, Root, Reached, follow, keys_on, is_op_at, is_query_at}
 use Rattle.desugaring.specs.Tables.{Tables, proc_name, proc_number, con_number}
@@ -65,26 +66,23 @@ located test xs = option_zip (position test xs) (find test xs)
 
 -- `tx` is operation 0
 abbrev pub op_called : {X : Type 0} → ℕ × PathOp → Called X
-op_called o = taking (keys_on o.1.path) (o.1.own.arg ∷ []) (operation (o.0 + 1))
+op_called o = taking (keys_on o.1.path) o.1.own.args (operation (o.0 + 1))
 
 abbrev pub query_called : {X : Type 0} → ℕ × PathQuery → Called X
 query_called q = taking (keys_on q.1.path) q.1.own.args (if is_get q.1.own.kind then value q.0 else question q.0)
 
-abbrev pub member_at : {X : Type 0} → Tables → ℕ → Reached → Option (Called X)
-member_at t root r =
-    option_or (option_map op_called (located (is_op_at root r) t.ops))
-    (option_map query_called (located (is_query_at root r) t.queries))
+abbrev pub member_at : {X : Type 0} → Tables → Member → ℕ → Reached → Option (Called X)
+member_at t m root r =
+    if is_operation m.does then option_map op_called (located (is_op_at root r) t.ops)
+    else option_map query_called (located (is_query_at root r) t.queries)
 
-abbrev pub form_of : CrdtTree → CrdtForm
-form_of (CrdtTree.node at form) = form
-
-abbrev pub on_root : {X : Type 0} → Tables → StepTrees → ℕ × Root → Option (Called X)
-on_root t steps root = option_and_then (member_at t root.0) (follow t.names steps (form_of root.1.crdt))
+abbrev pub on_root : {X : Type 0} → Tables → Member → StepTrees → ℕ × Root → Option (Called X)
+on_root t m steps root = option_and_then (member_at t m root.0) (follow t.names steps root.1.crdt)
 
 abbrev pub of_access : {X : Type 0} → Tables → List (Stand X) → Ident → StepTrees → Access → Option (Called X)
 of_access t vs x steps Access.unknown = None
 of_access t vs x steps (Access.misfit at) = None
-of_access t vs x steps (Access.variable v) = option_map (λ s. taking [] [] (variable s.known)) (stand_named vs v.name)
+of_access t vs x steps (Access.variable v) = option_map (λ s. taking [] [] (variable s.known)) (stand_named vs (text_of x))
 of_access t vs x steps (Access.constructor type c) =
     option_map (λ k. taking [] (param_kinds t.names (con_fields c)) (constructor k))
     (con_number t (plain_kind (base.Declared type)) (text_of (con_name c)))
@@ -94,7 +92,7 @@ of_access t vs x steps (Access.procedure p) =
 of_access t vs x steps (Access.returned p) =
     option_map (λ k. taking [] (result_args t.names (proc_result p)) (outcome k)) (proc_number t (proc_name p))
 of_access t vs x steps (Access.member m) =
-    option_and_then (on_root t steps) (located (λ root. same_name root.name (text_of x)) t.roots)
+    option_and_then (on_root t m steps) (located (λ root. same_name root.name (text_of x)) t.roots)
 
 abbrev pub called : {X : Type 0} → Tables → List (Stand X) → AccessTree → Option (Called X)
 called t vs (AccessTree.path x steps args) =

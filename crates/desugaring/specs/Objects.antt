@@ -1,5 +1,5 @@
 -- The operations and queries of replicated objects by their numbers, and where a path leads.
-use Rattle.std.specs.Prelude.{ℕ, ◌+◌, Bool, true, false, ◌&&◌, ◌==◌, List, [], ◌∷◌, ◌++◌, map, filter_map, codes, Option, Some, None, option_map, option_and_then, if◌then◌else◌}
+use Rattle.std.specs.Prelude.{ℕ, ◌+◌, Bool, true, false, ◌&&◌, ◌==◌, List, [], ◌∷◌, ◌++◌, map, filter_map, Option, Some, None, option_map, option_and_then, if◌then◌else◌}
 use Rattle.rp_grammar.specs.Trees.{CrdtTree, CrdtForm, FieldTree, FieldTrees, StepTree, StepTrees}
 use Rattle.rp_lang.specs.declared.op.OpKind.{OpKind}
 use Rattle.rp_lang.specs.declared.op.OpKind.TheVariants.{Add, Remove, Assign, Increment, Delete}
@@ -7,14 +7,16 @@ use Rattle.rp_lang.specs.declared.query.QueryKind.{QueryKind}
 use Rattle.rp_lang.specs.declared.query.QueryKind.TheVariants.{Contains, HasKey, GetReg, GetSum}
 use Rattle.type_rules.specs.declared.kind.Kind.{Kind}
 use Rattle.type_rules.specs.Names.{Name, Names, Declared, same_name, text_of}
-use Rattle.type_rules.specs.Kinds.{kind_of, maybe_of, bool_kind, int_kind}
+use Rattle.type_rules.specs.Kinds.{kind_of}
+use Rattle.type_rules.specs.Paths.{Does, Member, members_of}
+use Rattle.desugaring.specs.Appearances.{same_kind}
 
 -- # What each replicated type has itself
 
 pub record OwnOp : Type 0 where
   pub name : Name
   pub kind : OpKind
-  pub arg : Kind
+  pub args : List Kind
 
 pub record OwnQuery : Type 0 where
   pub name : Name
@@ -22,38 +24,39 @@ pub record OwnQuery : Type 0 where
   pub args : List Kind
   pub result : Kind
 
-abbrev pub op : List ℕ → OpKind → Kind → OwnOp
-op name kind arg = record { name = name; kind = kind; arg = arg }
+abbrev pub op_kind : Does → Option OpKind
+op_kind Does.adds = Some Add
+op_kind Does.removes = Some Remove
+op_kind Does.assigns = Some Assign
+op_kind Does.increments = Some Increment
+op_kind Does.deletes = Some Delete
+op_kind Does.contains = None
+op_kind Does.has_key = None
+op_kind Does.gets_value = None
+op_kind Does.gets_sum = None
 
-abbrev pub set_ops : Kind → List OwnOp
-set_ops k = op (codes "add") Add k ∷ op (codes "remove") Remove k ∷ []
+abbrev pub query_kind : Does → Option QueryKind
+query_kind Does.contains = Some Contains
+query_kind Does.has_key = Some HasKey
+query_kind Does.gets_value = Some GetReg
+query_kind Does.gets_sum = Some GetSum
+query_kind Does.adds = None
+query_kind Does.removes = None
+query_kind Does.assigns = None
+query_kind Does.increments = None
+query_kind Does.deletes = None
+
+abbrev pub own_op : Member → Option OwnOp
+own_op m = option_map (λ kind. record { name = m.name; kind = kind; args = m.args }) (op_kind m.does)
+
+abbrev pub own_query : Member → Option OwnQuery
+own_query m = option_map (λ kind. record { name = m.name; kind = kind; args = m.args; result = m.result }) (query_kind m.does)
 
 abbrev pub own_ops : Names → CrdtForm → List OwnOp
-own_ops n (CrdtForm.set_aw t) = set_ops (kind_of n t)
-own_ops n (CrdtForm.set_rw t) = set_ops (kind_of n t)
-own_ops n (CrdtForm.reg t) = op (codes "assign") Assign (kind_of n t) ∷ []
-own_ops n (CrdtForm.mv_reg t) = op (codes "assign") Assign (kind_of n t) ∷ []
-own_ops n CrdtForm.counter = op (codes "increment") Increment int_kind ∷ []
-own_ops n (CrdtForm.map_uw t c) = op (codes "delete") Delete (kind_of n t) ∷ []
-own_ops n (CrdtForm.map_dw t c) = op (codes "delete") Delete (kind_of n t) ∷ []
-own_ops n (CrdtForm.struct _) = []
-
--- `contains`, of a member or of a key
-abbrev pub contains : QueryKind → Kind → OwnQuery
-contains kind k = record { name = codes "contains"; kind = kind; args = k ∷ []; result = bool_kind }
-
-abbrev pub get : QueryKind → Kind → OwnQuery
-get kind k = record { name = codes "get"; kind = kind; args = []; result = k }
+own_ops n form = filter_map own_op (members_of n form)
 
 abbrev pub own_queries : Names → CrdtForm → List OwnQuery
-own_queries n (CrdtForm.set_aw t) = contains Contains (kind_of n t) ∷ []
-own_queries n (CrdtForm.set_rw t) = contains Contains (kind_of n t) ∷ []
-own_queries n (CrdtForm.reg t) = get GetReg (maybe_of (kind_of n t)) ∷ []
-own_queries n (CrdtForm.mv_reg t) = contains Contains (kind_of n t) ∷ []
-own_queries n CrdtForm.counter = get GetSum int_kind ∷ []
-own_queries n (CrdtForm.map_uw t c) = contains HasKey (kind_of n t) ∷ []
-own_queries n (CrdtForm.map_dw t c) = contains HasKey (kind_of n t) ∷ []
-own_queries n (CrdtForm.struct _) = []
+own_queries n form = filter_map own_query (members_of n form)
 
 -- # Operations and queries of a text
 
@@ -130,7 +133,7 @@ keys_on (field k ∷ path) = keys_on path
 keys_on (key kind ∷ path) = kind ∷ keys_on path
 
 abbrev pub op_kinds : PathOp → List Kind
-op_kinds o = keys_on o.path ++ o.own.arg ∷ []
+op_kinds o = keys_on o.path ++ o.own.args
 
 abbrev pub query_kinds : PathQuery → List Kind
 query_kinds q = keys_on q.path ++ q.own.args
@@ -140,41 +143,40 @@ query_kinds q = keys_on q.path ++ q.own.args
 -- the path, the type at its end, and the name of what is called there
 pub record Reached : Type 0 where
   pub path : List KindStep
-  pub form : CrdtForm
+  pub crdt : CrdtTree
   pub last : Name
 
 -- a field with its number, where the first of the others has the number k
 pub record AtField : Type 0 where
   pub number : ℕ
-  pub form : CrdtForm
+  pub crdt : CrdtTree
 
 abbrev pub field_named : Name → ℕ → FieldTrees → Option AtField
 field_named x k FieldTrees.no_fields = None
-field_named x k (FieldTrees.more_fields (FieldTree.field y (CrdtTree.node at form)) fields) =
-    if same_name (text_of y) x then Some (record { number = k; form = form }) else field_named x (k + 1) fields
+field_named x k (FieldTrees.more_fields (FieldTree.field y c) fields) =
+    if same_name (text_of y) x then Some (record { number = k; crdt = c }) else field_named x (k + 1) fields
 
 abbrev pub past : KindStep → Reached → Reached
-past step r = record { path = step ∷ r.path; form = r.form; last = r.last }
+past step r = record { path = step ∷ r.path; crdt = r.crdt; last = r.last }
 
-abbrev pub follow : Names → StepTrees → CrdtForm → Option Reached
-follow n StepTrees.no_steps form = None
-follow n (StepTrees.more_steps (StepTree.dot x) steps) (CrdtForm.struct fields) =
-    option_and_then (λ found. option_map (past (field found.number)) (follow n steps found.form))
+abbrev pub follow : Names → StepTrees → CrdtTree → Option Reached
+follow n StepTrees.no_steps c = None
+follow n (StepTrees.more_steps (StepTree.dot x) steps) (CrdtTree.node at (CrdtForm.struct fields)) =
+    option_and_then (λ found. option_map (past (field found.number)) (follow n steps found.crdt))
     (field_named (text_of x) 0 fields)
-follow n (StepTrees.more_steps (StepTree.dot x) StepTrees.no_steps) form =
-    Some (record { path = []; form = form; last = text_of x })
-follow n (StepTrees.more_steps (StepTree.key e) steps) (CrdtForm.map_uw t (CrdtTree.node at form)) =
-    option_map (past (key (kind_of n t))) (follow n steps form)
-follow n (StepTrees.more_steps (StepTree.key e) steps) (CrdtForm.map_dw t (CrdtTree.node at form)) =
-    option_map (past (key (kind_of n t))) (follow n steps form)
+follow n (StepTrees.more_steps (StepTree.dot x) StepTrees.no_steps) c =
+    Some (record { path = []; crdt = c; last = text_of x })
+follow n (StepTrees.more_steps (StepTree.key e) steps) (CrdtTree.node at (CrdtForm.map_uw t c)) =
+    option_map (past (key (kind_of n t))) (follow n steps c)
+follow n (StepTrees.more_steps (StepTree.key e) steps) (CrdtTree.node at (CrdtForm.map_dw t c)) =
+    option_map (past (key (kind_of n t))) (follow n steps c)
 follow n _ _ = None
 
 -- # Numbers
 
 abbrev pub same_step : KindStep → KindStep → Bool
 same_step (field j) (field k) = j == k
--- a map has one type of keys
-same_step (key j) (key k) = true
+same_step (key j) (key k) = same_kind j k
 same_step _ _ = false
 
 abbrev pub same_path : List KindStep → List KindStep → Bool

@@ -121,12 +121,16 @@ cons t = flat_map (cons_of t.names) t.datatypes
 abbrev pub con_number : Tables → Kind → Name → Option ℕ
 con_number t k x = position (λ c. same_kind c.of k && same_name c.name x) (cons t)
 
-abbrev pub is_arm_of : Kind → PatternTree → Con → Bool
-is_arm_of k p c = same_kind c.of k && same_name c.name (pattern_name p) && length c.fields == length (pattern_vars p)
+abbrev pub has_fields : ℕ → Option Con → Bool
+has_fields many None = false
+has_fields many (Some c) = length c.fields == many
 
--- the datatype's constructor of a pattern, which has as many fields as the pattern has variables
+abbrev pub with_fields : ℕ → List Con → ℕ → Option ℕ
+with_fields many cons n = if has_fields many (slice_get cons n) then Some n else None
+
+-- the datatype's constructor of a pattern's name, where it has as many fields as the pattern has variables
 abbrev pub arm_number : Tables → Kind → PatternTree → Option ℕ
-arm_number t k p = position (is_arm_of k p) (cons t)
+arm_number t k p = option_and_then (with_fields (length (pattern_vars p)) (cons t)) (con_number t k (pattern_name p))
 
 -- # The tables of types and constructors
 

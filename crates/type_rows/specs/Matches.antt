@@ -17,6 +17,16 @@ ArmTwice = Breaks (codes "proc p(m: Maybe[Int]) { match (m) { none => { } some(x
 abbrev pub VariableTooMany : Type 0
 VariableTooMany = Breaks (codes "proc p(m: Maybe[Int]) { match (m) { none => { } some(x, y) => { } } }") 18 48 52
 
+-- a `none` of which no type is asked is of no datatype
+abbrev pub MatchOfANone : Type 0
+MatchOfANone = Breaks (codes "proc p() { match (none) { none => { } some(x) => { } } }") 10 18 22
+
+abbrev pub OtherArmsOfANone : Type 0
+OtherArmsOfANone = Breaks (codes "proc p() { match (none) { true => { } false => { } } }") 10 18 22
+
+abbrev pub NoArmOfANone : Type 0
+NoArmOfANone = Breaks (codes "invariant match (none) { true => true };") 10 17 21
+
 abbrev pub ConstructorOfAnother : Type 0
 ConstructorOfAnother = Breaks (codes "datatype D = a | b(x: Int); datatype E = e; proc p(d: D) { match (d) { a => { } b(x) => { } e => { } } }") 18 92 93
 

@@ -47,6 +47,19 @@ SomeOfACall = Breaks (codes "invariant forall c: call :: some(c) == none;") 10 2
 abbrev pub SomeOfAnother : Type 0
 SomeOfAnother = Breaks (codes "proc p(m: Maybe[Int]) { assert m == some(true); }") 10 36 40
 
+-- the place inside asks no `Maybe`, so the `none` is the fault, and the `some` breaks nothing further
+abbrev pub NoneInSome : Type 0
+NoneInSome = Breaks (codes "query q(): Maybe[Int] = some(none);") 10 29 33
+
+abbrev pub NoneInAnAssignedSome : Type 0
+NoneInAnAssignedSome = Breaks (codes "proc p() { var x: Maybe[Int]; x = some(none); }") 10 39 43
+
+abbrev pub NoneInASide : Type 0
+NoneInASide = Breaks (codes "proc p(x: Maybe[Int]) { assert some(none) == x; }") 10 36 40
+
+abbrev pub NoneInAnArgument : Type 0
+NoneInAnArgument = Breaks (codes "crdt s: SetAw[Maybe[Int]]; proc p() { atomic { s.add(some(none)); } }") 10 58 62
+
 abbrev pub BodyNoTruth : Type 0
 BodyNoTruth = Breaks (codes "idtype U; invariant forall u: U :: u;") 10 35 36
 

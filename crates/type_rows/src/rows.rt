@@ -100,6 +100,10 @@ pub fn operands()
     ensures number_for_a_none { operands_rows.NumberForANone }
     ensures some_of_a_call { operands_rows.SomeOfACall }
     ensures some_of_another { operands_rows.SomeOfAnother }
+    ensures none_in_some { operands_rows.NoneInSome }
+    ensures none_in_an_assigned_some { operands_rows.NoneInAnAssignedSome }
+    ensures none_in_a_side { operands_rows.NoneInASide }
+    ensures none_in_an_argument { operands_rows.NoneInAnArgument }
     ensures body_no_truth { operands_rows.BodyNoTruth }
     ensures nones_that_are_asked { operands_rows.NonesThatAreAsked }
     ensures operands_that_fit { operands_rows.OperandsThatFit }
@@ -184,6 +188,9 @@ pub fn matches()
     ensures arm_missing_in_an_expression { matches_rows.ArmMissingInAnExpression }
     ensures arm_twice { matches_rows.ArmTwice }
     ensures variable_too_many { matches_rows.VariableTooMany }
+    ensures match_of_a_none { matches_rows.MatchOfANone }
+    ensures other_arms_of_a_none { matches_rows.OtherArmsOfANone }
+    ensures no_arm_of_a_none { matches_rows.NoArmOfANone }
     ensures constructor_of_another { matches_rows.ConstructorOfAnother }
     ensures root_as_a_pattern { matches_rows.RootAsAPattern }
     ensures matches_that_fit { matches_rows.MatchesThatFit }

@@ -85,11 +85,6 @@ proc_params (ProcTree.proc x params result body) = params
 abbrev pub proc_result : ProcTree → Option TypeTree
 proc_result (ProcTree.proc x params result body) = result
 
-abbrev pub member_kind : Member → Kind
-member_kind (Member.operation args) = plain_kind base.Operation
-member_kind (Member.query args k) = k
-member_kind (Member.get k) = k
-
 abbrev pub access_kind : Names → Access → Kind
 access_kind n Access.unknown = unknown_kind
 access_kind n (Access.misfit at) = unknown_kind
@@ -98,12 +93,7 @@ access_kind n (Access.constructor type c) = plain_kind (base.Declared type)
 access_kind n (Access.use_of k q) = kind_of n (query_result q)
 access_kind n (Access.procedure p) = plain_kind base.Info
 access_kind n (Access.returned p) = plain_kind base.Outcome
-access_kind n (Access.member m) = member_kind m
-
-abbrev pub member_args : Member → List Kind
-member_args (Member.operation args) = args
-member_args (Member.query args k) = args
-member_args (Member.get k) = []
+access_kind n (Access.member m) = m.result
 
 abbrev pub result_args : Names → Option TypeTree → List Kind
 result_args n None = []
@@ -118,7 +108,7 @@ args_of n (Access.constructor type c) = param_kinds n (con_fields c)
 args_of n (Access.use_of k q) = param_kinds n (query_params q)
 args_of n (Access.procedure p) = param_kinds n (proc_params p)
 args_of n (Access.returned p) = result_args n (proc_result p)
-args_of n (Access.member m) = member_args m
+args_of n (Access.member m) = m.args
 
 -- # Its parentheses
 
@@ -148,4 +138,4 @@ args_fit n (Access.constructor type c) args = con_args_fit (length (con_fields c
 args_fit n (Access.use_of k q) args = has_args (length (query_params q)) args
 args_fit n (Access.procedure p) args = has_args (length (proc_params p)) args
 args_fit n (Access.returned p) args = has_args (length (result_args n (proc_result p))) args
-args_fit n (Access.member m) args = has_args (length (member_args m)) args
+args_fit n (Access.member m) args = has_args (length m.args) args

@@ -16,6 +16,10 @@ bool_kind = plain_kind base.Bool
 abbrev pub int_kind : Kind
 int_kind = plain_kind base.Int
 
+-- what `op(c)` and an operation are
+abbrev pub operation_kind : Kind
+operation_kind = plain_kind base.Operation
+
 abbrev pub unknown_kind : Kind
 unknown_kind = plain_kind base.Unknown
 

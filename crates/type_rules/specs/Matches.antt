@@ -1,11 +1,11 @@
 -- The constructors that a `match` has an arm for, and the variables of a pattern.
-use Rattle.std.specs.Prelude.{zero, suc, true, List, [], ◌∷◌, ◌++◌, map, codes, Option, Some, None, slice_get, if◌then◌else◌}
+use Rattle.std.specs.Prelude.{zero, suc, true, ◌&&◌, ◌==◌, List, [], ◌∷◌, ◌++◌, map, codes, Option, Some, None, slice_get, if◌then◌else◌}
 use Rattle.rp_grammar.specs.Trees.{Ident, PatternTree, ConTree}
 use Rattle.type_rules.specs.declared.kind.Kind.{Kind}
 use Rattle.type_rules.specs.declared.kind.Base.{Base}
 use Rattle.type_rules.specs.declared.kind.Base.TheVariants as base
 use Rattle.type_rules.specs.Names.{Name, Names, TypeSort, TypeEntry, same_name, text_of, con_name, con_fields}
-use Rattle.type_rules.specs.Kinds.{unknown_kind, param_kinds}
+use Rattle.type_rules.specs.Kinds.{unknown_kind, is_open, param_kinds}
 use Rattle.type_rules.specs.Accesses.{Var}
 use Rattle.type_rules.specs.Sites.{Site}
 
@@ -48,9 +48,10 @@ base_cases n base.Outcome = None
 base_cases n base.Unknown = None
 base_cases n base.Open = None
 
--- the constructors of a datatype, `Bool` and the `Maybe` types among them; none where it is no datatype, or unknown
+-- the constructors of a datatype, `Bool` and the `Maybe` types among them; none where it is no datatype, or unknown, or that of
+-- a `none` of which no type is asked
 abbrev pub cases_of : Names → Kind → Option (List Case)
-cases_of n k = elim k.maybes [ zero ↦ base_cases n k.base | suc m ↦ Some (maybe_cases (record { base = k.base; maybes = m })) ]
+cases_of n k = elim k.maybes [ zero ↦ base_cases n k.base | suc m ↦ if is_open k.base && m == 0 then None else Some (maybe_cases (record { base = k.base; maybes = m })) ]
 
 abbrev pub find_case : List Case → Name → Option Case
 find_case [] x = None

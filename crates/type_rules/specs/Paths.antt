@@ -1,50 +1,89 @@
 -- Where a path from a root leads: to an operation or a query of the replicated type that it reaches.
-use Rattle.std.specs.Prelude.{ℕ, List, [], ◌∷◌, codes, Option, Some, None, if◌then◌else◌}
+use Rattle.std.specs.Prelude.{ℕ, Bool, true, false, List, [], ◌∷◌, find, codes, Option, Some, None, if◌then◌else◌}
 use Rattle.rp_span.specs.declared.Span.{Span}
 use Rattle.rp_grammar.specs.Trees.{Ident, CrdtTree, CrdtForm, FieldTree, FieldTrees, StepTree, StepTrees, ExprTree}
 use Rattle.type_rules.specs.declared.kind.Kind.{Kind}
 use Rattle.type_rules.specs.Names.{Name, Names, same_name, text_of}
-use Rattle.type_rules.specs.Kinds.{kind_of, maybe_of, bool_kind, int_kind, unknown_kind}
+use Rattle.type_rules.specs.Kinds.{kind_of, maybe_of, bool_kind, int_kind, operation_kind, unknown_kind}
 use Rattle.type_rules.specs.Starts.{span_of, start}
 
--- an operation with the types of its arguments, or a query with those and the type of its answer; a `get` query is a
--- plain term
-pub data Member : Type 0 where
-  operation : List Kind → Member
-  query : List Kind → Kind → Member
-  get : Kind → Member
+-- what the operations and the queries of replicated types do
+pub data Does : Type 0 where
+  adds : Does
+  removes : Does
+  assigns : Does
+  increments : Does
+  deletes : Does
+  -- whether a set or a register holds a value, and whether a map has a key
+  contains : Does
+  has_key : Does
+  -- the value of a register, and the sum of a counter
+  gets_value : Does
+  gets_sum : Does
 
-abbrev pub when_named : Name → List ℕ → Member → Option Member → Option Member
-when_named x word member other = if same_name x word then Some member else other
+abbrev pub is_operation : Does → Bool
+is_operation Does.adds = true
+is_operation Does.removes = true
+is_operation Does.assigns = true
+is_operation Does.increments = true
+is_operation Does.deletes = true
+is_operation Does.contains = false
+is_operation Does.has_key = false
+is_operation Does.gets_value = false
+is_operation Does.gets_sum = false
 
-abbrev pub set_member : Kind → Name → Option Member
-set_member k x =
-    when_named x (codes "add") (Member.operation (k ∷ []))
-    (when_named x (codes "remove") (Member.operation (k ∷ []))
-    (when_named x (codes "contains") (Member.query (k ∷ []) bool_kind) None))
+-- a query that holds or not
+abbrev pub is_question : Does → Bool
+is_question Does.contains = true
+is_question Does.has_key = true
+is_question Does.gets_value = false
+is_question Does.gets_sum = false
+is_question Does.adds = false
+is_question Does.removes = false
+is_question Does.assigns = false
+is_question Does.increments = false
+is_question Does.deletes = false
 
-abbrev pub register_member : Kind → Name → Option Member
-register_member k x = when_named x (codes "assign") (Member.operation (k ∷ [])) (when_named x (codes "get") (Member.get (maybe_of k)) None)
+-- an operation or a query, with the types of its arguments and its own
+pub record Member : Type 0 where
+  pub name : Name
+  pub does : Does
+  pub args : List Kind
+  pub result : Kind
 
-abbrev pub multi_member : Kind → Name → Option Member
-multi_member k x = when_named x (codes "assign") (Member.operation (k ∷ [])) (when_named x (codes "contains") (Member.query (k ∷ []) bool_kind) None)
+abbrev pub operation : List ℕ → Does → Kind → Member
+operation name does arg = record { name = name; does = does; args = arg ∷ []; result = operation_kind }
 
-abbrev pub counter_member : Name → Option Member
-counter_member x = when_named x (codes "increment") (Member.operation (int_kind ∷ [])) (when_named x (codes "get") (Member.get int_kind) None)
+-- whether it holds this, or has this key
+abbrev pub question : Does → Kind → Member
+question does arg = record { name = codes "contains"; does = does; args = arg ∷ []; result = bool_kind }
 
-abbrev pub map_member : Kind → Name → Option Member
-map_member k x = when_named x (codes "delete") (Member.operation (k ∷ [])) (when_named x (codes "contains") (Member.query (k ∷ []) bool_kind) None)
+abbrev pub get : Does → Kind → Member
+get does result = record { name = codes "get"; does = does; args = []; result = result }
 
--- the operation or query of this name that a replicated type has itself
+abbrev pub set_members : Kind → List Member
+set_members k = operation (codes "add") Does.adds k ∷ operation (codes "remove") Does.removes k ∷ question Does.contains k ∷ []
+
+abbrev pub map_members : Kind → List Member
+map_members k = operation (codes "delete") Does.deletes k ∷ question Does.has_key k ∷ []
+
+-- what a replicated type has itself
+abbrev pub members_of : Names → CrdtForm → List Member
+members_of n (CrdtForm.set_aw t) = set_members (kind_of n t)
+members_of n (CrdtForm.set_rw t) = set_members (kind_of n t)
+members_of n (CrdtForm.reg t) = operation (codes "assign") Does.assigns (kind_of n t) ∷ get Does.gets_value (maybe_of (kind_of n t)) ∷ []
+members_of n (CrdtForm.mv_reg t) = operation (codes "assign") Does.assigns (kind_of n t) ∷ question Does.contains (kind_of n t) ∷ []
+members_of n CrdtForm.counter = operation (codes "increment") Does.increments int_kind ∷ get Does.gets_sum int_kind ∷ []
+members_of n (CrdtForm.map_uw t c) = map_members (kind_of n t)
+members_of n (CrdtForm.map_dw t c) = map_members (kind_of n t)
+members_of n (CrdtForm.struct parts) = []
+
+abbrev pub form_of : CrdtTree → CrdtForm
+form_of (CrdtTree.node at form) = form
+
+-- the operation or query of this name
 abbrev pub member_of : Names → CrdtTree → Name → Option Member
-member_of n (CrdtTree.node at (CrdtForm.set_aw t)) x = set_member (kind_of n t) x
-member_of n (CrdtTree.node at (CrdtForm.set_rw t)) x = set_member (kind_of n t) x
-member_of n (CrdtTree.node at (CrdtForm.reg t)) x = register_member (kind_of n t) x
-member_of n (CrdtTree.node at (CrdtForm.mv_reg t)) x = multi_member (kind_of n t) x
-member_of n (CrdtTree.node at CrdtForm.counter) x = counter_member x
-member_of n (CrdtTree.node at (CrdtForm.map_uw t c)) x = map_member (kind_of n t) x
-member_of n (CrdtTree.node at (CrdtForm.map_dw t c)) x = map_member (kind_of n t) x
-member_of n (CrdtTree.node at (CrdtForm.struct parts)) x = None
+member_of n c x = find (λ m. same_name m.name x) (members_of n (form_of c))
 
 abbrev pub field_of : FieldTrees → Name → Option CrdtTree
 field_of FieldTrees.no_fields x = None

@@ -11,7 +11,7 @@ use Rattle.type_rules.specs.declared.role.Role.TheVariants as role
 use Rattle.type_rules.specs.Names.{Name, Names, TypeSort, TypeEntry, Declared, Entry, is_among, same_name, text_of, param_type, type_named, entry_named}
 use Rattle.type_rules.specs.Kinds.{is_open, is_unknown, is_any, is_ordinary, fits, kind_of, innermost}
 use Rattle.type_rules.specs.Starts.{span_of, type_start, start}
-use Rattle.type_rules.specs.Paths.{Member}
+use Rattle.type_rules.specs.Paths.{is_operation}
 use Rattle.type_rules.specs.Accesses.{Var, find_var, Access, access_of, args_fit, count}
 use Rattle.type_rules.specs.Typing.{type_of, is_plain}
 use Rattle.type_rules.specs.Sites.{Scope, Want, Leaving, Site}
@@ -301,7 +301,7 @@ is_across test w = is_word test w.across
 
 -- an operation beside `op(c)`, a procedure beside `info(i)`, its outcome beside `result(i)`
 abbrev pub access_stands : Want → Access → Bool
-access_stands w (Access.member (Member.operation args)) = is_across is_op_word w
+access_stands w (Access.member m) = not (is_operation m.does) || is_across is_op_word w
 access_stands w (Access.procedure p) = is_across is_info_word w
 access_stands w (Access.returned p) = is_across is_result_word w
 access_stands w _ = true
@@ -314,7 +314,7 @@ expr_stands n sc w (ExprTree.node at form) = true
 
 -- an operation; what an unknown name or a wrong path means isn't known
 abbrev pub is_statement : Access → Bool
-is_statement (Access.member (Member.operation args)) = true
+is_statement (Access.member m) = is_operation m.does
 is_statement Access.unknown = true
 is_statement (Access.misfit at) = true
 is_statement _ = false

@@ -7,24 +7,25 @@ use Rattle.rp_grammar.specs.Trees.{ExprTree, ExprForm, ExprTrees, AccessTree, St
 use Rattle.type_rules.specs.declared.kind.Kind.{Kind}
 use Rattle.type_rules.specs.declared.kind.Base.TheVariants as base
 use Rattle.type_rules.specs.Names.{Names}
-use Rattle.type_rules.specs.Kinds.{plain_kind, bool_kind, int_kind, maybe_of, inside}
-use Rattle.type_rules.specs.Paths.{Member}
+use Rattle.type_rules.specs.Kinds.{unknown_kind, plain_kind, bool_kind, int_kind, operation_kind, maybe_of, inside}
+use Rattle.type_rules.specs.Paths.{is_question}
 use Rattle.type_rules.specs.Accesses.{Var, Access, access_of, access_kind}
 
--- a `none` whose place asks no type that is a `Maybe`
+-- a `none` whose place asks no type
 abbrev pub unasked : Kind
 unasked = maybe_of (plain_kind base.Open)
 
--- a `none` has the type that its place asks, where that is a `Maybe`
+-- a `none` has the type that its place asks, where that is a `Maybe`; where another is asked the `none` is the fault, and its
+-- type breaks nothing further
 abbrev pub none_kind : Option Kind → Kind
 none_kind None = unasked
-none_kind (Some k) = if nat_eq k.maybes 0 then unasked else k
+none_kind (Some k) = if nat_eq k.maybes 0 then unknown_kind else k
 
 abbrev pub called_kind : CallWord → Kind
 called_kind called.Visible = bool_kind
 called_kind called.Before = bool_kind
 called_kind called.Same = bool_kind
-called_kind called.Op = plain_kind base.Operation
+called_kind called.Op = operation_kind
 called_kind called.Origin = plain_kind base.Invocation
 called_kind called.Info = plain_kind base.Info
 called_kind called.Result = plain_kind base.Outcome
@@ -54,7 +55,7 @@ abbrev mutual
   form_type n vs asked ExprForm.none_word = none_kind asked
   form_type n vs asked (ExprForm.some_of e) = maybe_of (type_of n vs (asked_inside asked) e)
   form_type n vs asked ExprForm.unreturned = plain_kind base.Outcome
-  form_type n vs asked ExprForm.tx = plain_kind base.Operation
+  form_type n vs asked ExprForm.tx = operation_kind
   form_type n vs asked (ExprForm.call w es) = called_kind w
   form_type n vs asked (ExprForm.match e arms) = bool_kind
   form_type n vs asked (ExprForm.access a) = access_kind n (access_of n vs a)
@@ -70,11 +71,6 @@ is_plain_word called.Op = true
 is_plain_word called.Origin = true
 is_plain_word called.Info = true
 is_plain_word called.Result = true
-
-abbrev pub is_plain_member : Member → Bool
-is_plain_member (Member.operation args) = true
-is_plain_member (Member.query args k) = false
-is_plain_member (Member.get k) = true
 
 abbrev pub flag : Option Bool → Bool
 flag None = false
@@ -93,7 +89,7 @@ is_plain_access n (Access.constructor type c) = true
 is_plain_access n (Access.use_of k q) = not (is_formula n k)
 is_plain_access n (Access.procedure p) = true
 is_plain_access n (Access.returned p) = true
-is_plain_access n (Access.member m) = is_plain_member m
+is_plain_access n (Access.member m) = not (is_question m.does)
 
 -- a term with a part that isn't plain isn't plain
 abbrev mutual
