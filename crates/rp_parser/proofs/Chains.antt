@@ -10,7 +10,7 @@ use Rattle.rp_ast.specs.declared.expr.ExprNode.{ExprNode}
 use Rattle.rp_ast.specs.View.{expr_view, exprs_view}
 use Rattle.rp_tokens.specs.MachineStates.{is_symbol, State, stopping}
 use Rattle.rp_tokens.specs.Machine.{step, bounded}
-use Rattle.rp_parser.specs.Marks.{next_is}
+use Rattle.rp_parser.specs.means.Marks.{next_is}
 use Rattle.rp_parser.proofs.Lists.{map_pushed}
 use Rattle.rp_parser.proofs.Steps.{alike, cond_false}
 

@@ -12,7 +12,7 @@ use Rattle.rp_tokens.specs.Machine.{int_step, stuck, whole, bounded}
 use Rattle.rp_parser.specs.declared.mark.Mark.{Mark}
 use Rattle.rp_parser.specs.declared.mark.Kind.{Kind}
 use Rattle.rp_parser.specs.declared.mark.Kind.TheVariants as kind
-use Rattle.rp_parser.specs.Marks.{terminal_of, toks}
+use Rattle.rp_parser.specs.means.Marks.{terminal_of, toks}
 use Rattle.rp_parser.proofs.Steps.{alike}
 
 pub no_name : (kd : Kind) (d : ℕ) (k : Ident → State) (v : Span) → ((bytes : Bor (List ℕ)) → kd ≡ kind.Name bytes → ⊥) → name_step d k (terminal_of kd) v ≡ None

@@ -18,8 +18,8 @@ use Rattle.rp_grammar.proofs.Moving.{moves}
 use Rattle.rp_grammar.proofs.Places.{all_spelled}
 use Rattle.rp_parser.specs.declared.mark.Kind.{Kind}
 use Rattle.rp_parser.specs.declared.mark.Mark.{Mark}
-use Rattle.rp_parser.specs.Marks.{meant, terminal_of, tok_of, IsReadable}
-use Rattle.rp_parser.specs.Marks as marks
+use Rattle.rp_parser.specs.means.Marks.{meant, terminal_of, tok_of, IsReadable}
+use Rattle.rp_parser.specs.means.Marks as marks
 use Rattle.rp_parser.proofs.Lists.{map_pushed}
 
 abbrev pub marked : Kind → Span → Mark

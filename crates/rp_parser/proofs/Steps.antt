@@ -9,8 +9,8 @@ use Rattle.rp_tokens.specs.Machine.{step, ended, stuck, Bounded, whole, deep, bo
 use Rattle.rp_parser.specs.declared.mark.Mark.{Mark}
 use Rattle.rp_parser.specs.declared.fault.Fault.{Fault}
 use Rattle.rp_parser.specs.declared.fault.Fault.TheVariants as fault
-use Rattle.rp_parser.specs.Marks.{terminal_of, tok_of, toks, next_is}
-use Rattle.rp_parser.specs.Reading.{Faults, Gives}
+use Rattle.rp_parser.specs.means.Marks.{terminal_of, tok_of, toks, next_is}
+use Rattle.rp_parser.specs.means.Reading.{Faults, Gives}
 
 is_le : (d : ℕ) → d ≤ 64 → nat_le d 64 ≡ true
 is_le d h = grind (arith, nat_tests)
@@ -65,6 +65,10 @@ no_symbol m s t a (at x v ∷ ts) h e f = alike s t x v ts (f x v ∙ cond_false
 -- behind a way that the machine goes in any case
 pub led_to : {X : Type 0} → (r : Result X Fault) (o p : Bounded) (f : X → Bounded) → o ≡ p → Gives r p f → Gives r o f
 led_to r o p f h g = subst (λ o. Gives r o f) (sym h) g
+
+-- where what is held is let go
+pub let_go : (e l : Fault) (o : Bounded) → l ≡ e → Faults e o → Faults l o
+let_go e l o h g = subst (λ e. Faults e o) (sym h) g
 
 pub marks_longer : (ms rest : List Mark) → length ms ≡ suc (length rest) → length (toks ms) ≡ suc (length rest)
 marks_longer ms rest h = length_toks ms ∙ h

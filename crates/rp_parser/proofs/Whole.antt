@@ -9,7 +9,7 @@ use Rattle.rp_grammar.specs.Begins.{IsTree, IsTreeWithin, IsFirstBad, IsTooDeep,
 use Rattle.rp_grammar.specs.Texts.{HasToks, IsTextWithin}
 use Rattle.rp_grammar.specs.Lexed.{Lexed}
 use Rattle.rp_parser.specs.declared.mark.Mark.{Mark}
-use Rattle.rp_parser.specs.Marks.{toks}
+use Rattle.rp_parser.specs.means.Marks.{toks}
 use Rattle.rp_parser.proofs.Steps.{length_toks}
 use Rattle.rp_grammar.proofs.Toks.{one_text_toks}
 use Rattle.rp_ast.specs.declared.decl.Ast.{Ast}
@@ -23,8 +23,9 @@ use Rattle.rp_parser.specs.declared.error.ParseErr.{ParseErr}
 use Rattle.rp_parser.specs.declared.error.ParseErr.TheVariants as err
 use Rattle.rp_parser.specs.declared.fault.Fault.{Fault}
 use Rattle.rp_parser.specs.declared.fault.Fault.TheVariants as fault
-use Rattle.rp_parser.specs.Reading.{Faults}
-use Rattle.rp_parser.specs.Answers.{IsAnswer, IsFault, IsRead, IsRefused, IsFoundTooDeep}
+use Rattle.rp_parser.specs.means.Reading.{Faults}
+use Rattle.rp_parser.specs.Answers.{IsFault, IsRead, IsRefused, IsFoundTooDeep}
+use Rattle.rp_parser.specs.means.TokenAnswers.{IsAnswer}
 
 pub length_of : {text : List ℕ} {ts : List Token} {us : List Tok} → ToksOf text ts us → length ts ≡ length us
 length_of grammar.ToksOf.none = refl

@@ -7,8 +7,8 @@ ghost use Rattle.rp_grammar.specs.Trees.{ident, ConTree, DeclTree};
 ghost use Rattle.rp_tokens.specs.MachineStates.{State, to, more_cons, in_decls};
 ghost use Rattle.rp_tokens.specs.MachineDecls.{decl_word as decl_word_step, want_con, want_claim, in_invariant};
 ghost use Rattle.rp_tokens.specs.Machine.{bounded};
-ghost use Rattle.rp_parser.specs.Marks.{toks};
-ghost use Rattle.rp_parser.specs.DeclStarts.{decl_next, NoDecl};
+ghost use Rattle.rp_parser.specs.means.Marks.{toks};
+ghost use Rattle.rp_parser.specs.means.DeclStarts.{decl_next, NoDecl};
 
 use crate::mark::{Kind, Marks};
 use crate::next::behind;

@@ -8,12 +8,12 @@ ghost use Rattle.rp_ast.specs.View.{optional as optional_view, ident_view, type_
 ghost use Rattle.rp_tokens.specs.MachineStates.{State, in_decls};
 ghost use Rattle.rp_tokens.specs.MachineDecls.{want_con, want_cons, in_result, in_type, in_datatype, in_crdt, in_query, want_claim, in_invariant, in_proc};
 ghost use Rattle.rp_tokens.specs.Machine.{whole, done, bounded};
-ghost use Rattle.rp_parser.specs.Marks.{toks};
-ghost use Rattle.rp_parser.specs.Reading.{Gives};
-ghost use Rattle.rp_parser.specs.DeclStarts.{decl_next, NoDecl, in_query_body, in_query_type, in_proc_result};
+ghost use Rattle.rp_parser.specs.means.Marks.{toks};
+ghost use Rattle.rp_parser.specs.means.Reading.{Gives};
+ghost use Rattle.rp_parser.specs.means.DeclStarts.{decl_next, NoDecl, in_query_body, in_query_type, in_proc_result};
 
 use crate::decl_starts::{DeclStart, bar_sign, claim_sign, decl_sign};
-use crate::fault::Fault;
+use crate::fault::{Fault, lost};
 use crate::leaves::ident;
 use crate::mark::{Kind, Marks};
 use crate::next::{join, name, optional, symbol};
@@ -99,7 +99,10 @@ fn read_crdt_decl(alloc: Global, start: Span, marks: Marks) -> Result<(Decl, Mar
     let (name, after) = name(alloc, marks, 0)?;
     let (_, after) = symbol(after, Symbol::Colon, 0)?;
     let (crdt, after) = read_crdt(alloc, after, 0)?;
-    let (close, end) = symbol(after, Symbol::Semicolon, 0)?;
+    let (close, end) = match symbol(after, Symbol::Semicolon, 0) {
+        Ok(read) => read,
+        Err(fault) => return Err(lost(crdt, fault)),
+    };
     let span = join(start, close);
     let what = DeclForm::Crdt(name, crdt);
     Ok((Decl { span, what }, end))
@@ -119,8 +122,14 @@ fn read_query_body(
         (bounded 64 (in_query_body start (ident_view name) (map param_view params) (type_view ty) k)
         (toks marks.now)) (λ x. bounded 64 (k (decl_view x.0)) (toks x.1.now)) }
 {
-    let (_, after) = symbol(marks, Symbol::Assign, 0)?;
-    let (body, close, end) = read_sentence(alloc, after, 0)?;
+    let (_, after) = match symbol(marks, Symbol::Assign, 0) {
+        Ok(read) => read,
+        Err(fault) => return Err(lost(ty, fault)),
+    };
+    let (body, close, end) = match read_sentence(alloc, after, 0) {
+        Ok(read) => read,
+        Err(fault) => return Err(lost(ty, fault)),
+    };
     let span = join(start, close);
     let what = DeclForm::Query(QueryNode {
         name,
@@ -223,7 +232,10 @@ fn read_proc_result(
         (toks marks.now)) (λ x. bounded 64 (k (decl_view x.0)) (toks x.1.now)) }
 {
     let (result, after) = read_result(alloc, marks)?;
-    let (body, end) = read_block(alloc, after, 0)?;
+    let (body, end) = match read_block(alloc, after, 0) {
+        Ok(read) => read,
+        Err(fault) => return Err(lost(result, fault)),
+    };
     let span = join(start, span_of_block(&body));
     let what = DeclForm::Proc(ProcNode {
         name,

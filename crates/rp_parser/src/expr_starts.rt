@@ -7,9 +7,9 @@ ghost use Rattle.rp_grammar.specs.Parts.{Part};
 ghost use Rattle.rp_tokens.specs.MachineStates.{State, to, want_prim, want_operand, want_pattern, want_int};
 ghost use Rattle.rp_tokens.specs.MachineExprs.{prim_step, prim_word as prim_word_step, prim_symbol as prim_symbol_step, cmp_step, operand_step};
 ghost use Rattle.rp_tokens.specs.Machine.{bounded};
-ghost use Rattle.rp_parser.specs.Marks.{terminal_of, toks};
-ghost use Rattle.rp_parser.specs.Reading.{Gives};
-ghost use Rattle.rp_parser.specs.ExprStarts.{prim_next, operand_next, IsWithin};
+ghost use Rattle.rp_parser.specs.means.Marks.{terminal_of, toks};
+ghost use Rattle.rp_parser.specs.means.Reading.{Gives};
+ghost use Rattle.rp_parser.specs.means.ExprStarts.{prim_next, operand_next, IsWithin};
 
 use crate::fault::Fault;
 use crate::mark::{Kind, Marks};

@@ -4,22 +4,22 @@ ghost use Rattle.std.specs.Prelude.{List as Items};
 ghost use Rattle.std.specs.Prelude.{◌≡◌, ℕ, suc, pos, neg_ℤ, ◌<◌, ◌≤◌, [], ◌∷◌, ◌++◌, IfOk, length, map, false};
 ghost use Rattle.rp_span.specs.declared.Span.{Span as SpanValue};
 ghost use Rattle.rp_grammar.specs.declared.terminal.Symbol.TheVariants as symbols;
-ghost use Rattle.rp_grammar.specs.Trees.{TypeTree, Ident as IdentTree, ParamTree, ExprTree, ExprForm, ExprArmTree, StepTree, AccessTree};
-ghost use Rattle.rp_grammar.specs.Parts.{Part, part, join as join_spans};
+ghost use Rattle.rp_grammar.specs.Trees.{TypeTree, Ident as IdentTree, ident as ident_tree, ParamTree, ExprTree, ExprForm, ExprArmTree, StepTree, AccessTree};
+ghost use Rattle.rp_grammar.specs.Parts.{Part, part, tree_of, built, in_parens, join as join_spans};
 ghost use Rattle.rp_grammar.specs.Exprs.{quantifier_part};
 ghost use Rattle.rp_ast.specs.View.{ident_view, type_view, param_view, expr_view, expr_arm_view, access_view, step_view};
 ghost use Rattle.rp_tokens.specs.MachineStates.{State, want_prim, want_operand, more_and, more_or, more_implies, more_cmp, more_sum, have_bound, in_access};
-ghost use Rattle.rp_tokens.specs.MachineExprs.{want_andx, want_expr, want_sum, want_bound, want_closed, want_parens, want_exprs, want_args, want_match, want_expr_arm, want_expr_arms, in_args, called_with};
+ghost use Rattle.rp_tokens.specs.MachineExprs.{want_andx, want_expr, want_sum, want_bound, want_closed, want_parens, want_exprs, want_args, want_call, access_part, want_match, want_expr_arm, want_expr_arms, in_args, called_with};
 ghost use Rattle.rp_tokens.specs.Machine.{bounded};
-ghost use Rattle.rp_parser.specs.Marks.{toks, next_is};
-ghost use Rattle.rp_parser.specs.Reading.{Gives};
-ghost use Rattle.rp_parser.specs.ExprStarts.{quantifier_of, want_comparison};
-ghost use Rattle.rp_parser.specs.Signs.{step_next};
+ghost use Rattle.rp_parser.specs.means.Marks.{toks, next_is};
+ghost use Rattle.rp_parser.specs.means.Reading.{Gives};
+ghost use Rattle.rp_parser.specs.means.ExprStarts.{quantifier_of, want_comparison};
+ghost use Rattle.rp_parser.specs.means.Signs.{step_next};
 
 use crate::expr_starts::{
     Leaf, OperandStart, PrimStart, QuantifierKind, number, operand_first, prim_first,
 };
-use crate::fault::Fault;
+use crate::fault::{Fault, lost};
 use crate::leaves::{ident, leaf_node, negative, quantified, sum};
 use crate::mark::Marks;
 use crate::next::{join, name, optional, symbol, symbol_within};
@@ -31,7 +31,7 @@ use crate::signs::{
 use crate::types::read_type;
 use rp_ast::build::expr;
 use rp_ast::{AccessNode, AccessStep, ExprArm, ExprNode, Ident, Param};
-use rp_grammar::Symbol;
+use rp_grammar::{CallWord, Symbol};
 use rp_span::Span;
 use rp_value::List;
 use std::alloc::Global;
@@ -83,7 +83,10 @@ fn read_expr_behind(
     let Some(after) = implies_sign(rest, depth) else {
         return Ok((left, extent, rest));
     };
-    let (right, right_extent, end) = read_expr(alloc, after, depth + 1)?;
+    let (right, right_extent, end) = match read_expr(alloc, after, depth + 1) {
+        Ok(read) => read,
+        Err(fault) => return Err(lost(left, fault)),
+    };
     let span = join(extent, right_extent);
     Ok((expr::implies(alloc, span, left, right)?, span, end))
 }
@@ -131,18 +134,18 @@ fn read_or_chain(
         (λ f. more_or d (part (expr_view first) first_extent) (f ∷ []) k)) (toks marks.now))
         (λ x. bounded 64 (k (part (expr_view x.0) x.1)) (toks x.2.now)) }
 {
-    let (second, second_extent, mut rest) = read_and(alloc, marks, depth)?;
-    let mut extent = join(first_extent, second_extent);
     let mut members = List::new(alloc);
     members.push(first)?;
+    let (second, second_extent, mut rest) = read_and(alloc, marks, depth)?;
     members.push(second)?;
+    let mut extent = join(first_extent, second_extent);
     'members: loop {
         let Some(after) = or_sign(rest, depth) else {
             return Ok((expr::or(extent, members), extent, rest));
         };
         let (member, member_extent, end) = read_and(alloc, after, depth)?;
-        extent = join(extent, member_extent);
         members.push(member)?;
+        extent = join(extent, member_extent);
         rest = end;
     }
 }
@@ -200,18 +203,18 @@ fn read_and_chain(
         (λ f. more_and d (part (expr_view first) first_extent) (f ∷ []) k)) (toks marks.now))
         (λ x. bounded 64 (k (part (expr_view x.0) x.1)) (toks x.2.now)) }
 {
-    let (second, second_extent, mut rest) = read_operand(alloc, marks, depth)?;
-    let mut extent = join(first_extent, second_extent);
     let mut members = List::new(alloc);
     members.push(first)?;
+    let (second, second_extent, mut rest) = read_operand(alloc, marks, depth)?;
     members.push(second)?;
+    let mut extent = join(first_extent, second_extent);
     'members: loop {
         let Some(after) = and_sign(rest, depth) else {
             return Ok((expr::and(extent, members), extent, rest));
         };
         let (member, member_extent, end) = read_operand(alloc, after, depth)?;
-        extent = join(extent, member_extent);
         members.push(member)?;
+        extent = join(extent, member_extent);
         rest = end;
     }
 }
@@ -263,7 +266,10 @@ fn read_bound(
 {
     let (_, after) = symbol_within(marks, Symbol::Colon, depth)?;
     let (ty, after) = read_type(alloc, after, depth)?;
-    let (body, extent, end) = read_scope(alloc, quantifier, after, depth)?;
+    let (body, extent, end) = match read_scope(alloc, quantifier, after, depth) {
+        Ok(read) => read,
+        Err(fault) => return Err(lost(ty, fault)),
+    };
     let span = join(start, extent);
     let variable = Param { name, ty };
     Ok((
@@ -345,7 +351,10 @@ fn read_comparison_behind(
     let Some((op, after)) = compare_sign(rest, depth) else {
         return Ok((left, extent, rest));
     };
-    let (right, right_extent, end) = read_sum(alloc, after, depth)?;
+    let (right, right_extent, end) = match read_sum(alloc, after, depth) {
+        Ok(read) => read,
+        Err(fault) => return Err(lost(left, fault)),
+    };
     let span = join(extent, right_extent);
     Ok((expr::compare(alloc, span, op, left, right)?, span, end))
 }
@@ -381,7 +390,10 @@ fn read_sum_behind(
     let Some((sign, after)) = sum_sign(marks, depth) else {
         return Ok((first, first_extent, marks));
     };
-    let (right, right_extent, rest) = read_prim(alloc, after, depth + 1)?;
+    let (right, right_extent, rest) = match read_prim(alloc, after, depth + 1) {
+        Ok(read) => read,
+        Err(fault) => return Err(lost(first, fault)),
+    };
     let extent = join(first_extent, right_extent);
     let left = sum(alloc, extent, sign, first, right)?;
     read_sum_behind(alloc, left, extent, rest, depth + 1)
@@ -405,30 +417,94 @@ fn read_prim(alloc: Global, marks: Marks, depth: u32) -> Result<(ExprNode, Span,
             let span = join(start_span, value_span);
             Ok((negative(alloc, span, value)?, span, end))
         }
-        PrimStart::Some => {
-            let (_, inside) = symbol(rest, Symbol::OpenParen, depth)?;
-            let (value, _extent, close, end) = read_closed(alloc, inside, depth)?;
-            let span = join(start_span, close);
-            Ok((expr::some_of(alloc, span, value)?, span, end))
-        }
-        PrimStart::Call(word) => {
-            let (_, inside) = symbol(rest, Symbol::OpenParen, depth)?;
-            let (args, close, end) = read_args(alloc, inside, depth)?;
-            let span = join(start_span, close);
-            Ok((expr::call(span, word, args), span, end))
-        }
+        PrimStart::Some => read_some(alloc, start_span, rest, depth),
+        PrimStart::Call(word) => read_call(alloc, start_span, word, rest, depth),
         PrimStart::Match => read_match(alloc, start_span, rest, depth),
-        PrimStart::Name(bytes) => {
-            let root = ident(alloc, start_span, bytes)?;
-            let (access, extent, end) = read_access(alloc, root, rest, depth)?;
-            Ok((expr::access(alloc, extent, access)?, extent, end))
-        }
-        PrimStart::Paren => {
-            let (inside, _extent, close, end) = read_closed(alloc, rest, depth)?;
-            let span = join(start_span, close);
-            Ok((inside, span, end))
-        }
+        PrimStart::Name(bytes) => read_name(alloc, start_span, bytes, rest, depth),
+        PrimStart::Paren => read_paren(alloc, start_span, rest, depth),
     }
+}
+
+/// What follows the word `Some` at `start`.
+#[cycle(exprs)]
+fn read_some(
+    alloc: Global,
+    start: Span,
+    marks: Marks,
+    depth: u32,
+) -> Result<(ExprNode, Span, Marks), Fault>
+    requires { depth ≤ 64 }
+    ensures shorter { IfOk result (λ x. length x.2.now < length marks.now) }
+    ensures reads { (d : ℕ) → d ≡ depth → (k : Part ExprTree → State)
+        → Gives result (bounded 64 (want_parens d
+        (λ e c. k (built (join_spans start c) (ExprForm.some_of (tree_of e))))) (toks marks.now))
+        (λ x. bounded 64 (k (part (expr_view x.0) x.1)) (toks x.2.now)) }
+{
+    let (_, inside) = symbol(marks, Symbol::OpenParen, depth)?;
+    let (value, _extent, close, end) = read_closed(alloc, inside, depth)?;
+    let span = join(start, close);
+    Ok((expr::some_of(alloc, span, value)?, span, end))
+}
+
+/// The arguments of a call, behind its word at `start`.
+#[cycle(exprs)]
+fn read_call(
+    alloc: Global,
+    start: Span,
+    word: CallWord,
+    marks: Marks,
+    depth: u32,
+) -> Result<(ExprNode, Span, Marks), Fault>
+    requires { depth ≤ 64 }
+    ensures shorter { IfOk result (λ x. length x.2.now < length marks.now) }
+    ensures reads { (d : ℕ) → d ≡ depth → (k : Part ExprTree → State)
+        → Gives result (bounded 64 (want_call d word start k) (toks marks.now))
+        (λ x. bounded 64 (k (part (expr_view x.0) x.1)) (toks x.2.now)) }
+{
+    let (_, inside) = symbol(marks, Symbol::OpenParen, depth)?;
+    let (args, close, end) = read_args(alloc, inside, depth)?;
+    let span = join(start, close);
+    Ok((expr::call(span, word, args), span, end))
+}
+
+/// An access, behind its root at `start`.
+#[cycle(exprs)]
+fn read_name<'a>(
+    alloc: Global,
+    start: Span,
+    bytes: &[u8],
+    marks: Marks<'a>,
+    depth: u32,
+) -> Result<(ExprNode, Span, Marks<'a>), Fault>
+    requires { depth ≤ 64 }
+    ensures no_longer { IfOk result (λ x. length x.2.now ≤ length marks.now) }
+    ensures reads { (d : ℕ) → d ≡ depth → (k : Part ExprTree → State)
+        → Gives result (bounded 64 (in_access d (ident_tree bytes.now start) [] start
+        (λ a. k (access_part a))) (toks marks.now))
+        (λ x. bounded 64 (k (part (expr_view x.0) x.1)) (toks x.2.now)) }
+{
+    let root = ident(alloc, start, bytes)?;
+    let (access, extent, end) = read_access(alloc, root, marks, depth)?;
+    Ok((expr::access(alloc, extent, access)?, extent, end))
+}
+
+/// An expression in parentheses, behind the opening one at `start`, with their span as its extent.
+#[cycle(exprs)]
+fn read_paren(
+    alloc: Global,
+    start: Span,
+    marks: Marks,
+    depth: u32,
+) -> Result<(ExprNode, Span, Marks), Fault>
+    requires { depth ≤ 64 }
+    ensures shorter { IfOk result (λ x. length x.2.now < length marks.now) }
+    ensures reads { (d : ℕ) → d ≡ depth → (k : Part ExprTree → State)
+        → Gives result (bounded 64 (want_closed d (λ e c. k (in_parens start c e))) (toks marks.now))
+        (λ x. bounded 64 (k (part (expr_view x.0) x.1)) (toks x.2.now)) }
+{
+    let (inside, _extent, close, end) = read_closed(alloc, marks, depth)?;
+    let span = join(start, close);
+    Ok((inside, span, end))
 }
 
 /// An expression and its closing parenthesis, behind the opening one; with the extent of the
@@ -446,7 +522,10 @@ pub(crate) fn read_closed(
         (λ x. bounded 64 (k (part (expr_view x.0) x.1) x.2) (toks x.3.now)) }
 {
     let (inside, extent, after) = read_expr(alloc, marks, depth + 1)?;
-    let (close, end) = symbol(after, Symbol::CloseParen, depth)?;
+    let (close, end) = match symbol(after, Symbol::CloseParen, depth) {
+        Ok(read) => read,
+        Err(fault) => return Err(lost(inside, fault)),
+    };
     Ok((inside, extent, close, end))
 }
 
@@ -507,9 +586,18 @@ fn read_match(
 {
     let (_, inside) = symbol(marks, Symbol::OpenParen, depth)?;
     let (value, _extent, _close, after) = read_closed(alloc, inside, depth)?;
-    let (_, inside) = symbol(after, Symbol::OpenBrace, depth)?;
-    let (arms, after) = read_arms(alloc, inside, depth + 1)?;
-    let (close, end) = symbol(after, Symbol::CloseBrace, depth)?;
+    let (_, inside) = match symbol(after, Symbol::OpenBrace, depth) {
+        Ok(read) => read,
+        Err(fault) => return Err(lost(value, fault)),
+    };
+    let (arms, after) = match read_arms(alloc, inside, depth + 1) {
+        Ok(read) => read,
+        Err(fault) => return Err(lost(value, fault)),
+    };
+    let (close, end) = match symbol(after, Symbol::CloseBrace, depth) {
+        Ok(read) => read,
+        Err(fault) => return Err(lost(value, fault)),
+    };
     let span = join(start, close);
     Ok((expr::match_(alloc, span, value, arms)?, span, end))
 }
@@ -630,7 +718,10 @@ fn read_step(
         StepSign::Dot => dot_step(alloc, marks, depth),
         StepSign::Key => {
             let (key, _extent, after) = read_expr(alloc, marks, depth + 1)?;
-            let (close, end) = symbol(after, Symbol::CloseBracket, depth)?;
+            let (close, end) = match symbol(after, Symbol::CloseBracket, depth) {
+                Ok(read) => read,
+                Err(fault) => return Err(lost(key, fault)),
+            };
             Ok((expr::key(key), close, end))
         }
     }

@@ -6,9 +6,9 @@ ghost use Rattle.rp_grammar.specs.Trees.{ParamTree};
 ghost use Rattle.rp_grammar.specs.Exprs.{quantified as quantified_form};
 ghost use Rattle.rp_grammar.specs.Toks.{escaped as escaped_byte};
 ghost use Rattle.rp_ast.specs.View.{ident_view, param_view, expr_view};
-ghost use Rattle.rp_parser.specs.Marks.{meant};
-ghost use Rattle.rp_parser.specs.ExprStarts.{leaf_form, quantifier_of};
-ghost use Rattle.rp_parser.specs.Signs.{sum_form};
+ghost use Rattle.rp_parser.specs.means.Marks.{meant};
+ghost use Rattle.rp_parser.specs.means.ExprStarts.{leaf_form, quantifier_of};
+ghost use Rattle.rp_parser.specs.means.Signs.{sum_form};
 
 use crate::expr_starts::{Leaf, QuantifierKind};
 use crate::signs::SumSign;

@@ -11,8 +11,8 @@ ghost use Rattle.rp_ast.specs.View.{ident_view};
 ghost use Rattle.rp_tokens.specs.MachineStates.{State, want_symbol, want_name, if_symbol, if_word, more_params, more_fields, more_names};
 ghost use Rattle.rp_tokens.specs.MachineTypes.{want_param, want_field};
 ghost use Rattle.rp_tokens.specs.Machine.{bounded};
-ghost use Rattle.rp_parser.specs.Marks.{toks, next_is, next_is_word};
-ghost use Rattle.rp_parser.specs.Reading.{Gives};
+ghost use Rattle.rp_parser.specs.means.Marks.{toks, next_is, next_is_word};
+ghost use Rattle.rp_parser.specs.means.Reading.{Gives};
 
 use crate::fault::Fault;
 use crate::mark::{Kind, Marks};

@@ -9,8 +9,8 @@ ghost use Rattle.rp_ast.specs.View.{ident_view, pattern_view};
 ghost use Rattle.rp_tokens.specs.MachineStates.{State, to, want_symbol, want_name, want_pattern, more_names};
 ghost use Rattle.rp_tokens.specs.MachineExprs.{pattern_step, in_pattern};
 ghost use Rattle.rp_tokens.specs.Machine.{bounded};
-ghost use Rattle.rp_parser.specs.Marks.{terminal_of, toks};
-ghost use Rattle.rp_parser.specs.Reading.{Gives};
+ghost use Rattle.rp_parser.specs.means.Marks.{terminal_of, toks};
+ghost use Rattle.rp_parser.specs.means.Reading.{Gives};
 
 use crate::fault::Fault;
 use crate::leaves;

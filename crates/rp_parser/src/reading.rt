@@ -5,7 +5,7 @@ ghost use Rattle.std.specs.List.{AllByRecursion};
 ghost use Rattle.rp_grammar.specs.Bytes.{value, greatest};
 ghost use Rattle.rp_grammar.specs.Pieces.{Shape};
 ghost use Rattle.rp_grammar.specs.Toks.{slice, IsTerminal, ToksOf};
-ghost use Rattle.rp_parser.specs.Marks.{terminal_of, toks, IsReadable};
+ghost use Rattle.rp_parser.specs.means.Marks.{terminal_of, toks, IsReadable};
 
 use crate::mark::{Kind, Mark};
 use rp_grammar::{Token, TokenKind};

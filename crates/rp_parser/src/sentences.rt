@@ -9,12 +9,12 @@ ghost use Rattle.rp_tokens.specs.MachineStates.{State};
 ghost use Rattle.rp_tokens.specs.MachineExprs.{want_parens};
 ghost use Rattle.rp_tokens.specs.MachineStmts.{want_sentence, want_value, in_access_stmt, in_named, in_var, in_return};
 ghost use Rattle.rp_tokens.specs.Machine.{bounded};
-ghost use Rattle.rp_parser.specs.Marks.{toks};
-ghost use Rattle.rp_parser.specs.Reading.{Gives};
-ghost use Rattle.rp_parser.specs.Sentences.{want_new, in_initial};
+ghost use Rattle.rp_parser.specs.means.Marks.{toks};
+ghost use Rattle.rp_parser.specs.means.Reading.{Gives};
+ghost use Rattle.rp_parser.specs.means.Sentences.{want_new, in_initial};
 
 use crate::exprs::{read_access, read_closed, read_expr};
-use crate::fault::Fault;
+use crate::fault::{Fault, lost};
 use crate::mark::Marks;
 use crate::next::{join, name, optional, optional_word, symbol};
 use crate::types::read_type;
@@ -54,7 +54,10 @@ pub(crate) fn read_sentence(
         (λ x. bounded 64 (k (expr_view x.0) x.1) (toks x.2.now)) }
 {
     let (value, _extent, after) = read_expr(alloc, marks, depth)?;
-    let (close, end) = symbol(after, Symbol::Semicolon, depth)?;
+    let (close, end) = match symbol(after, Symbol::Semicolon, depth) {
+        Ok(read) => read,
+        Err(fault) => return Err(lost(value, fault)),
+    };
     Ok((value, close, end))
 }
 
@@ -112,7 +115,10 @@ fn read_access_stmt(
         (λ x. bounded 64 (k (stmt_view x.0)) (toks x.1.now)) }
 {
     let (access, extent, after) = read_access(alloc, name, marks, depth)?;
-    let (close, end) = symbol(after, Symbol::Semicolon, depth)?;
+    let (close, end) = match symbol(after, Symbol::Semicolon, depth) {
+        Ok(read) => read,
+        Err(fault) => return Err(lost(access, fault)),
+    };
     let span = join(extent, close);
     Ok((stmt::access(span, access), end))
 }
@@ -152,11 +158,17 @@ fn read_initial(
         (toks marks.now)) (λ x. bounded 64 (k (stmt_view x.0)) (toks x.1.now)) }
 {
     if let Some((_, after)) = optional(marks, Symbol::Assign, depth) {
-        let (value, close, end) = read_sentence(alloc, after, depth)?;
+        let (value, close, end) = match read_sentence(alloc, after, depth) {
+            Ok(read) => read,
+            Err(fault) => return Err(lost(ty, fault)),
+        };
         let span = join(start, close);
         return Ok((stmt::var(span, name, ty, Some(value)), end));
     }
-    let (close, end) = symbol(marks, Symbol::Semicolon, depth)?;
+    let (close, end) = match symbol(marks, Symbol::Semicolon, depth) {
+        Ok(read) => read,
+        Err(fault) => return Err(lost(ty, fault)),
+    };
     let span = join(start, close);
     Ok((stmt::var(span, name, ty, None), end))
 }

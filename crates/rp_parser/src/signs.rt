@@ -11,9 +11,9 @@ ghost use Rattle.rp_ast.specs.View.{step_view};
 ghost use Rattle.rp_tokens.specs.MachineStates.{State, want_prim, want_operand, more_and, more_or, more_implies, more_cmp, more_sum, more_exprs, more_expr_arms, have_bound, in_access};
 ghost use Rattle.rp_tokens.specs.MachineExprs.{want_andx, want_expr, want_sum, want_expr_arm, want_step, in_args, not_called, comparison_symbol};
 ghost use Rattle.rp_tokens.specs.Machine.{bounded};
-ghost use Rattle.rp_parser.specs.Marks.{toks, next_is};
-ghost use Rattle.rp_parser.specs.Reading.{Gives};
-ghost use Rattle.rp_parser.specs.Signs.{sum_form, bound_next, step_next};
+ghost use Rattle.rp_parser.specs.means.Marks.{toks, next_is};
+ghost use Rattle.rp_parser.specs.means.Reading.{Gives};
+ghost use Rattle.rp_parser.specs.means.Signs.{sum_form, bound_next, step_next};
 
 use crate::fault::Fault;
 use crate::mark::{Kind, Marks};

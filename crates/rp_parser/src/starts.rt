@@ -6,9 +6,9 @@ ghost use Rattle.rp_grammar.specs.Trees.{TypeTree, CrdtTree};
 ghost use Rattle.rp_tokens.specs.MachineStates.{State, to, want_type, want_crdt};
 ghost use Rattle.rp_tokens.specs.MachineTypes.{type_step, type_word as type_word_step, crdt_step, crdt_word as crdt_word_step, crdt_symbol as crdt_symbol_step};
 ghost use Rattle.rp_tokens.specs.Machine.{bounded};
-ghost use Rattle.rp_parser.specs.Marks.{terminal_of, toks};
-ghost use Rattle.rp_parser.specs.Reading.{Gives};
-ghost use Rattle.rp_parser.specs.Starts.{type_next, crdt_next};
+ghost use Rattle.rp_parser.specs.means.Marks.{terminal_of, toks};
+ghost use Rattle.rp_parser.specs.means.Reading.{Gives};
+ghost use Rattle.rp_parser.specs.means.Starts.{type_next, crdt_next};
 
 use crate::fault::Fault;
 use crate::mark::{Kind, Marks};

@@ -7,10 +7,10 @@ ghost use Rattle.rp_grammar.specs.Trees.{ident, ExprTree, BlockTree, StmtTree, B
 ghost use Rattle.rp_tokens.specs.MachineStates.{State, to, in_stmts, in_block_arms, more_if};
 ghost use Rattle.rp_tokens.specs.MachineStmts.{stmt_step, stmt_word as stmt_word_step, want_else, alone};
 ghost use Rattle.rp_tokens.specs.Machine.{bounded};
-ghost use Rattle.rp_parser.specs.Marks.{terminal_of, toks};
-ghost use Rattle.rp_parser.specs.Reading.{Gives, Moves};
-ghost use Rattle.rp_parser.specs.Blocks.{in_arm};
-ghost use Rattle.rp_parser.specs.StmtStarts.{stmt_next, else_next, IsWithin};
+ghost use Rattle.rp_parser.specs.means.Marks.{terminal_of, toks};
+ghost use Rattle.rp_parser.specs.means.Reading.{Gives, Moves};
+ghost use Rattle.rp_parser.specs.means.Blocks.{in_arm};
+ghost use Rattle.rp_parser.specs.means.StmtStarts.{stmt_next, else_next, IsWithin};
 
 use crate::fault::Fault;
 use crate::mark::{Kind, Marks};

@@ -11,12 +11,12 @@ ghost use Rattle.rp_ast.specs.View.{ident_view, stmt_view, block_view, block_arm
 ghost use Rattle.rp_tokens.specs.MachineStates.{State, in_stmts, in_block_arms};
 ghost use Rattle.rp_tokens.specs.MachineStmts.{want_block, want_else, in_if, in_match};
 ghost use Rattle.rp_tokens.specs.Machine.{bounded};
-ghost use Rattle.rp_parser.specs.Marks.{toks};
-ghost use Rattle.rp_parser.specs.Reading.{Gives, Moves};
-ghost use Rattle.rp_parser.specs.StmtStarts.{stmt_next};
-ghost use Rattle.rp_parser.specs.Blocks.{in_arm};
+ghost use Rattle.rp_parser.specs.means.Marks.{toks};
+ghost use Rattle.rp_parser.specs.means.Reading.{Gives, Moves};
+ghost use Rattle.rp_parser.specs.means.StmtStarts.{stmt_next};
+ghost use Rattle.rp_parser.specs.means.Blocks.{in_arm};
 
-use crate::fault::Fault;
+use crate::fault::{Fault, lost};
 use crate::leaves::ident;
 use crate::mark::Marks;
 use crate::next::{MAX_DEPTH, join, symbol};
@@ -153,12 +153,18 @@ fn read_if(alloc: Global, start: Span, marks: Marks, depth: u32) -> Result<(Stmt
         (λ x. bounded 64 (k (stmt_view x.0)) (toks x.1.now)) }
 {
     let (condition, _extent, _close, after) = read_parens(alloc, marks, depth)?;
-    let (body, after) = read_block(alloc, after, depth)?;
+    let (body, after) = match read_block(alloc, after, depth) {
+        Ok(read) => read,
+        Err(fault) => return Err(lost(condition, fault)),
+    };
     let Some(behind_else) = else_sign(after, depth) else {
         let span = join(start, span_of_block(&body));
         return Ok((stmt::if_(span, condition, body, None), after));
     };
-    let (otherwise, last, end) = read_else(alloc, behind_else, depth)?;
+    let (otherwise, last, end) = match read_else(alloc, behind_else, depth) {
+        Ok(read) => read,
+        Err(fault) => return Err(lost(condition, lost(body, fault))),
+    };
     let span = join(start, last);
     Ok((stmt::if_(span, condition, body, Some(otherwise)), end))
 }
@@ -204,9 +210,18 @@ fn read_match(
         (λ x. bounded 64 (k (stmt_view x.0)) (toks x.1.now)) }
 {
     let (value, _extent, _close, after) = read_parens(alloc, marks, depth)?;
-    let (_, inside) = symbol(after, Symbol::OpenBrace, depth)?;
-    let (arms, after) = read_arms(alloc, inside, depth + 1)?;
-    let (close, end) = symbol(after, Symbol::CloseBrace, depth)?;
+    let (_, inside) = match symbol(after, Symbol::OpenBrace, depth) {
+        Ok(read) => read,
+        Err(fault) => return Err(lost(value, fault)),
+    };
+    let (arms, after) = match read_arms(alloc, inside, depth + 1) {
+        Ok(read) => read,
+        Err(fault) => return Err(lost(value, fault)),
+    };
+    let (close, end) = match symbol(after, Symbol::CloseBrace, depth) {
+        Ok(read) => read,
+        Err(fault) => return Err(lost(value, fault)),
+    };
     let span = join(start, close);
     Ok((stmt::match_(span, value, arms), end))
 }

@@ -8,8 +8,9 @@ ghost use Rattle.rp_grammar.specs.Lexed.{Lexed};
 ghost use Rattle.rp_grammar.specs.Begins.{IsFirstBad, IsTooDeep, EndsInEnd};
 ghost use Rattle.rp_grammar.specs.Texts.{HasToks, IsTextWithin};
 ghost use Rattle.rp_ast.specs.View.{ast_view};
-ghost use Rattle.rp_parser.specs.Marks.{toks};
-ghost use Rattle.rp_parser.specs.Answers.{IsAnswer, IsFault, IsRead, IsRefused, IsFoundTooDeep};
+ghost use Rattle.rp_parser.specs.means.Marks.{toks};
+ghost use Rattle.rp_parser.specs.Answers.{IsFault, IsRead, IsRefused, IsFoundTooDeep};
+ghost use Rattle.rp_parser.specs.means.TokenAnswers.{IsAnswer};
 
 use crate::decls::read_program;
 use crate::error::ParseErr;

@@ -6,13 +6,13 @@ ghost use Rattle.rp_grammar.specs.Parts.{join as join_spans};
 ghost use Rattle.rp_grammar.specs.Trees.{TypeTree, ParamTree, CrdtTree, FieldTree};
 ghost use Rattle.rp_ast.specs.View.{type_view, param_view, crdt_view, field_view};
 ghost use Rattle.rp_tokens.specs.MachineStates.{State, want_type, want_crdt, more_fields};
-ghost use Rattle.rp_tokens.specs.MachineTypes.{want_param, want_params, want_param_list, want_element, want_field};
+ghost use Rattle.rp_tokens.specs.MachineTypes.{want_entry, want_struct, want_param, want_params, want_param_list, want_element, want_field};
 ghost use Rattle.rp_tokens.specs.Machine.{bounded};
-ghost use Rattle.rp_parser.specs.Marks.{toks};
-ghost use Rattle.rp_parser.specs.Reading.{Gives};
-ghost use Rattle.rp_parser.specs.Starts.{plain_form, container_form, map_form};
+ghost use Rattle.rp_parser.specs.means.Marks.{toks};
+ghost use Rattle.rp_parser.specs.means.Reading.{Gives};
+ghost use Rattle.rp_parser.specs.means.Starts.{plain_form, container_form, map_form};
 
-use crate::fault::Fault;
+use crate::fault::{Fault, lost};
 use crate::mark::Marks;
 use crate::next::{comma, join, name, optional, symbol};
 use crate::starts::{Container, CrdtStart, MapKind, PlainType, TypeStart, crdt_first, type_first};
@@ -50,7 +50,10 @@ pub(crate) fn read_type(alloc: Global, marks: Marks, depth: u32) -> Result<(Type
         TypeStart::Maybe => {
             let (_, inside) = symbol(rest, Symbol::OpenBracket, depth)?;
             let (element, after) = read_type(alloc, inside, depth + 1)?;
-            let (close, end) = symbol(after, Symbol::CloseBracket, depth)?;
+            let (close, end) = match symbol(after, Symbol::CloseBracket, depth) {
+                Ok(read) => read,
+                Err(fault) => return Err(lost(element, fault)),
+            };
             let span = join(start_span, close);
             Ok((ty::maybe(alloc, span, element)?, end))
         }
@@ -72,7 +75,10 @@ fn read_element(
 {
     let (_, inside) = symbol(marks, Symbol::OpenBracket, depth)?;
     let (element, after) = read_type(alloc, inside, depth + 1)?;
-    let (close, end) = symbol(after, Symbol::CloseBracket, depth)?;
+    let (close, end) = match symbol(after, Symbol::CloseBracket, depth) {
+        Ok(read) => read,
+        Err(fault) => return Err(lost(element, fault)),
+    };
     Ok((element, join(start, close), end))
 }
 
@@ -180,22 +186,63 @@ pub(crate) fn read_crdt(alloc: Global, marks: Marks, depth: u32) -> Result<(Crdt
             let (element, span, end) = read_element(alloc, start_span, rest, depth)?;
             Ok((container(span, kind, element), end))
         }
-        CrdtStart::Map(kind) => {
-            let (_, inside) = symbol(rest, Symbol::OpenBracket, depth)?;
-            let (key, after) = read_type(alloc, inside, depth + 1)?;
-            let (_, after) = symbol(after, Symbol::Comma, depth + 1)?;
-            let (value, after) = read_crdt(alloc, after, depth + 1)?;
-            let (close, end) = symbol(after, Symbol::CloseBracket, depth)?;
-            let span = join(start_span, close);
-            Ok((map_type(alloc, span, kind, key, value)?, end))
-        }
-        CrdtStart::Struct => {
-            let (fields, after) = read_fields(alloc, rest, depth + 1)?;
-            let (close, end) = symbol(after, Symbol::CloseBrace, depth)?;
-            let span = join(start_span, close);
-            Ok((crdt::struct_(span, fields), end))
-        }
+        CrdtStart::Map(kind) => read_map(alloc, kind, start_span, rest, depth),
+        CrdtStart::Struct => read_struct(alloc, start_span, rest, depth),
     }
+}
+
+/// A map in brackets, behind its word.
+#[cycle(crdts)]
+fn read_map(
+    alloc: Global,
+    kind: MapKind,
+    start: Span,
+    marks: Marks,
+    depth: u32,
+) -> Result<(CrdtNode, Marks), Fault>
+    requires { depth ≤ 64 }
+    ensures shorter { IfOk result (λ x. length x.1.now < length marks.now) }
+    ensures reads { (d : ℕ) → d ≡ depth → (k : CrdtTree → State)
+        → Gives result (bounded 64 (want_entry d start
+        (λ t v e. k (CrdtTree.node e (map_form kind t v)))) (toks marks.now))
+        (λ x. bounded 64 (k (crdt_view x.0)) (toks x.1.now)) }
+{
+    let (_, inside) = symbol(marks, Symbol::OpenBracket, depth)?;
+    let (key, after) = read_type(alloc, inside, depth + 1)?;
+    let (_, after) = match symbol(after, Symbol::Comma, depth + 1) {
+        Ok(read) => read,
+        Err(fault) => return Err(lost(key, fault)),
+    };
+    let (value, after) = match read_crdt(alloc, after, depth + 1) {
+        Ok(read) => read,
+        Err(fault) => return Err(lost(key, fault)),
+    };
+    let (close, end) = match symbol(after, Symbol::CloseBracket, depth) {
+        Ok(read) => read,
+        Err(fault) => return Err(lost(key, lost(value, fault))),
+    };
+    let span = join(start, close);
+    Ok((map_type(alloc, span, kind, key, value)?, end))
+}
+
+/// Named parts and the closing brace, behind the opening one.
+#[cycle(crdts)]
+fn read_struct(
+    alloc: Global,
+    start: Span,
+    marks: Marks,
+    depth: u32,
+) -> Result<(CrdtNode, Marks), Fault>
+    requires { depth ≤ 64 }
+    ensures shorter { IfOk result (λ x. length x.1.now < length marks.now) }
+    ensures reads { (d : ℕ) → d ≡ depth → (k : CrdtTree → State)
+        → Gives result (bounded 64 (want_struct d start k) (toks marks.now))
+        (λ x. bounded 64 (k (crdt_view x.0)) (toks x.1.now)) }
+{
+    let (fields, after) = read_fields(alloc, marks, depth + 1)?;
+    let (close, end) = symbol(after, Symbol::CloseBrace, depth)?;
+    let span = join(start, close);
+    Ok((crdt::struct_(span, fields), end))
 }
 
 /// Named parts with commas between them, one at least.

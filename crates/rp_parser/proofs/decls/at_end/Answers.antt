@@ -2,8 +2,8 @@ use Rattle.std.proofs.Common.{ap, subst, ◌∙◌, rules, arith}
 use Rattle.rp_ast.specs.View.{decls_view}
 use Rattle.rp_tokens.specs.MachineStates.{finished, in_decls}
 use Rattle.rp_tokens.specs.MachineDecls.{decls_step}
-use Rattle.rp_parser.specs.Marks.{terminal_of, toks}
-use Rattle.rp_parser.specs.DeclStarts.{NoDecl}
+use Rattle.rp_parser.specs.means.Marks.{terminal_of, toks}
+use Rattle.rp_parser.specs.means.DeclStarts.{NoDecl}
 use Rattle.rp_parser.proofs.Steps.{takes, refuses, length_toks}
 use Rattle.rp_parser.proofs.Moves.{no_decl, not_at_end}
 use Rattle.rp_parser.proofs.decls.at_end.Goals as goal

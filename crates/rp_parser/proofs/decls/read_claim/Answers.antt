@@ -4,7 +4,7 @@ use Rattle.rp_grammar.specs.Trees.{ExprTree, DeclTree, DeclForm}
 use Rattle.rp_grammar.specs.Parts.{join}
 use Rattle.rp_ast.specs.View.{optional, ident_view, expr_view}
 use Rattle.rp_tokens.specs.Machine.{bounded}
-use Rattle.rp_parser.specs.Marks.{toks}
+use Rattle.rp_parser.specs.means.Marks.{toks}
 use Rattle.rp_parser.proofs.decls.read_claim.Goals as goal
 
 pub returns-in_err-claim-clause-reads : goal.returns-in_err-claim-clause-reads

@@ -4,7 +4,7 @@ use Rattle.rp_ast.specs.View.{con_view}
 use Rattle.rp_tokens.specs.MachineStates.{State, more_cons}
 use Rattle.rp_tokens.specs.MachineDecls.{want_cons}
 use Rattle.rp_tokens.specs.Machine.{bounded}
-use Rattle.rp_parser.specs.Marks.{toks}
+use Rattle.rp_parser.specs.means.Marks.{toks}
 use Rattle.rp_parser.proofs.decls.read_cons.Given as goal
 
 abbrev pub invariant-cons : goal.invariant-cons

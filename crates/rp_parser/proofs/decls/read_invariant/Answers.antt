@@ -1,7 +1,7 @@
 use Rattle.std.proofs.Common.{Some, ap, sym, ◌∙◌}
 use Rattle.rp_tokens.specs.MachineDecls.{want_claim}
 use Rattle.rp_tokens.specs.Machine.{bounded}
-use Rattle.rp_parser.specs.Marks.{toks}
+use Rattle.rp_parser.specs.means.Marks.{toks}
 use Rattle.rp_parser.proofs.Steps.{led_to}
 use Rattle.rp_parser.proofs.decls.read_invariant.Goals as goal
 

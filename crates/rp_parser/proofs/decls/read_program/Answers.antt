@@ -2,7 +2,7 @@ use Rattle.std.proofs.Common.{ap, ◌∙◌, [], ◌∷◌, ◌++◌, map}
 use Rattle.rp_ast.specs.View.{decl_view}
 use Rattle.rp_tokens.specs.MachineStates.{in_decls}
 use Rattle.rp_tokens.specs.Machine.{bounded}
-use Rattle.rp_parser.specs.Marks.{toks}
+use Rattle.rp_parser.specs.means.Marks.{toks}
 use Rattle.rp_parser.proofs.Lists.{map_pushed}
 use Rattle.rp_parser.proofs.decls.read_program.Goals as goal
 

@@ -2,7 +2,7 @@ use Rattle.std.proofs.Common.{◌≡◌, [], length}
 use Rattle.rp_ast.specs.View.{decls_view}
 use Rattle.rp_tokens.specs.MachineStates.{in_decls}
 use Rattle.rp_tokens.specs.Machine.{bounded}
-use Rattle.rp_parser.specs.Marks.{toks}
+use Rattle.rp_parser.specs.means.Marks.{toks}
 use Rattle.rp_parser.proofs.decls.read_program.Given as goal
 
 abbrev pub invariant-decls : goal.invariant-decls

@@ -2,7 +2,7 @@ use Rattle.std.proofs.Common.{List, refl, ◌∙◌, rules}
 use Rattle.rp_grammar.specs.Trees.{Ident, ParamTree}
 use Rattle.rp_ast.specs.View.{ident_view}
 use Rattle.rp_tokens.specs.MachineTypes.{want_param_list}
-use Rattle.rp_parser.specs.DeclStarts.{in_query_type}
+use Rattle.rp_parser.specs.means.DeclStarts.{in_query_type}
 use Rattle.rp_parser.proofs.Steps.{led_to}
 use Rattle.rp_parser.proofs.decls.read_query.Goals as goal
 

@@ -1,6 +1,6 @@
 use Rattle.std.proofs.Common.{arith}
 use Rattle.rp_tokens.specs.MachineStates.{want_operand}
-use Rattle.rp_parser.specs.ExprStarts.{operand_next}
+use Rattle.rp_parser.specs.means.ExprStarts.{operand_next}
 use Rattle.rp_parser.proofs.Steps.{takes, too_deep}
 use Rattle.rp_parser.proofs.Moves.{as_comparison}
 use Rattle.rp_parser.proofs.expr_starts.operand_first.Goals as goal

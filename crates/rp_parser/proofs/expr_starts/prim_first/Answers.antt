@@ -1,6 +1,6 @@
 use Rattle.std.proofs.Common.{arith}
 use Rattle.rp_tokens.specs.MachineStates.{want_prim}
-use Rattle.rp_parser.specs.ExprStarts.{prim_next}
+use Rattle.rp_parser.specs.means.ExprStarts.{prim_next}
 use Rattle.rp_parser.proofs.Steps.{takes, refuses, too_deep}
 use Rattle.rp_parser.proofs.expr_starts.prim_first.Goals as goal
 

@@ -8,11 +8,12 @@ use Rattle.rp_ast.specs.View.{ident_view, pattern_view, expr_view, expr_arm_view
 use Rattle.rp_tokens.specs.MachineStates.{want_symbol, stopping, more_and, more_or, more_implies, more_cmp, more_sum, more_exprs, more_expr_arms, in_access}
 use Rattle.rp_tokens.specs.MachineExprs.{want_bound, want_expr, want_closed, want_args, want_expr_arms, called_with}
 use Rattle.rp_tokens.specs.Machine.{bounded}
-use Rattle.rp_parser.specs.Marks.{toks}
-use Rattle.rp_parser.specs.ExprStarts.{operand_next, prim_next, quantifier_of, IsWithin}
-use Rattle.rp_parser.specs.Signs.{sum_form}
+use Rattle.rp_parser.specs.means.Marks.{toks}
+use Rattle.rp_parser.specs.means.Reading.{Faults}
+use Rattle.rp_parser.specs.means.ExprStarts.{operand_next, prim_next, quantifier_of, IsWithin}
+use Rattle.rp_parser.specs.means.Signs.{sum_form}
 use Rattle.rp_parser.proofs.Lists.{map_pushed, map_two}
-use Rattle.rp_parser.proofs.Steps.{led_to}
+use Rattle.rp_parser.proofs.Steps.{led_to, let_go}
 use Rattle.rp_parser.proofs.Chains.{stops, chain_pushed, reach_last, and_node, or_node}
 use Rattle.rp_parser.proofs.exprs.+exprs.Goals as goal
 
@@ -62,9 +63,9 @@ read_sum_behind-returns-clause-reads t c = λ d h k.
     let form = sum_form c.in-Some.sign in
     led_to _ _ _ _
     (c.in-Some.ensures.reads d h first k
-    ∙ c.in_ok-right.ensures.reads (suc d) deeper (λ b. more_sum (suc d) (between form first b) k)
-    ∙ ap (λ v. bounded 64 (more_sum (suc d) (built v (form (expr_view c.args.first) (expr_view c.in_ok-right.right))) k) (toks c.in_ok-right.rest.now)) (sym c.join-extent.ensures)
-    ∙ ap (λ x. bounded 64 (more_sum (suc d) (part x c.join-extent.result) k) (toks c.in_ok-right.rest.now)) (sym c.in_ok-left.ensures))
+    ∙ c.in-Ok.ensures.reads (suc d) deeper (λ b. more_sum (suc d) (between form first b) k)
+    ∙ ap (λ v. bounded 64 (more_sum (suc d) (built v (form (expr_view c.args.first) (expr_view c.in-Ok.read.0))) k) (toks c.in-Ok.read.2.now)) (sym c.join-extent.ensures)
+    ∙ ap (λ x. bounded 64 (more_sum (suc d) (part x c.join-extent.result) k) (toks c.in-Ok.read.2.now)) (sym c.in_ok-left.ensures))
     (c.read_sum_behind.ensures.reads (suc d) deeper k)
 
 pub read_sum-returns-clause-reads : goal.read_sum-returns-clause-reads
@@ -211,22 +212,22 @@ read_expr_behind-returns-in_default-clause-reads t c = λ d h k.
     c.in_ok-left.ensures.reads d h (λ a. more_implies d a k)
     ∙ c.in_default.ensures.reads d h (part (expr_view c.in_ok-left.left) c.in_ok-left.extent) k
 
-pub read_expr_behind-returns-in_err-right-clause-reads : goal.read_expr_behind-returns-in_err-right-clause-reads
-read_expr_behind-returns-in_err-right-clause-reads t c = λ d h k.
+pub read_expr_behind-returns-in-Err-clause-reads : goal.read_expr_behind-returns-in-Err-clause-reads
+read_expr_behind-returns-in-Err-clause-reads t c = λ d h k.
     let deeper = ap suc h ∙ sym (add-one c.args.depth) in
     let left = part (expr_view c.in_ok-left.left) c.in_ok-left.extent in
-    let fault = c.in_err-right.ensures.reads (suc d) deeper (λ b. k (between ExprForm.implies left b)) in
-    led_to _ _ _ _ (c.in_ok-left.ensures.reads d h (λ a. more_implies d a k) ∙ c.in-Some.ensures.reads d h left k) (search (rules, fault))
+    let fault = c.in-Err.ensures.reads (suc d) deeper (λ b. k (between ExprForm.implies left b)) in
+    subst (λ o. Faults c.lost.result o) (sym (c.in_ok-left.ensures.reads d h (λ a. more_implies d a k) ∙ c.in-Some.ensures.reads d h left k)) (let_go _ _ _ c.lost.ensures fault)
 
 pub read_expr_behind-returns-clause-reads : goal.read_expr_behind-returns-clause-reads
 read_expr_behind-returns-clause-reads t c = λ d h k.
     let deeper = ap suc h ∙ sym (add-one c.args.depth) in
     let left = part (expr_view c.in_ok-left.left) c.in_ok-left.extent in
-    let form = ExprForm.implies (expr_view c.in_ok-left.left) (expr_view c.in_ok-right.right) in
+    let form = ExprForm.implies (expr_view c.in_ok-left.left) (expr_view c.in-Ok.read.0) in
     c.in_ok-left.ensures.reads d h (λ a. more_implies d a k)
     ∙ c.in-Some.ensures.reads d h left k
-    ∙ c.in_ok-right.ensures.reads (suc d) deeper (λ b. k (between ExprForm.implies left b))
-    ∙ ap (λ p. bounded 64 (k p) (toks c.in_ok-right.end.now)) (ap (λ v. built v form) (sym c.join-span.ensures) ∙ ap (λ x. part x c.join-span.result) (sym c.in_ok-implies.ensures))
+    ∙ c.in-Ok.ensures.reads (suc d) deeper (λ b. k (between ExprForm.implies left b))
+    ∙ ap (λ p. bounded 64 (k p) (toks c.in-Ok.read.2.now)) (ap (λ v. built v form) (sym c.join-span.ensures) ∙ ap (λ x. part x c.join-span.result) (sym c.in_ok-implies.ensures))
 
 pub read_comparison-returns-then-ends_comparison-clause-reads : goal.read_comparison-returns-then-ends_comparison-clause-reads
 read_comparison-returns-then-ends_comparison-clause-reads t c = λ d h k.
@@ -313,47 +314,61 @@ read_exprs-returns-in_err-member-clause-reads t c = λ d h k.
     let fault = c.in_err-member.ensures.reads d h (λ e. more_exprs d (es ++ tree_of e ∷ []) k) in
     led_to _ _ _ _ (c.members.invariant.reads d h k ∙ c.in-Some.ensures.exprs d h es k) (search (rules, fault))
 
-pub read_prim-returns-in_err-value-in-Some-clause-reads : goal.read_prim-returns-in_err-value-in-Some-clause-reads
-read_prim-returns-in_err-value-in-Some-clause-reads t c = λ d h k.
-    let s = c.in_ok-start.start_span in
-    let behind = λ (e : Part ExprTree) (v : Span). k (built (join s v) (ExprForm.some_of (tree_of e))) in
-    let fault = c.in_err-value-in-Some.ensures.reads d h behind in
-    led_to _ _ _ _ (c.in_ok-start.ensures.reads d h k ∙ ap (λ x. bounded 64 (prim_next d k s x) (toks c.in_ok-start.rest.now)) c.in-Some.is ∙ c.in_ok-inside-in-Some.ensures.reads d h refl (λ o. want_closed d behind)) (search (rules, fault))
+pub read_prim-returns-in-Some-clause-reads : goal.read_prim-returns-in-Some-clause-reads
+read_prim-returns-in-Some-clause-reads t c = λ d h k.
+    led_to _ _ _ _ (c.in_ok-start.ensures.reads d h k ∙ ap (λ x. bounded 64 (prim_next d k c.in_ok-start.start_span x) (toks c.in_ok-start.rest.now)) c.in-Some.is) (c.read_some.ensures.reads d h k)
 
-pub read_prim-returns-in_err-args-in-Call-clause-reads : goal.read_prim-returns-in_err-args-in-Call-clause-reads
-read_prim-returns-in_err-args-in-Call-clause-reads t c = λ d h k.
-    let s = c.in_ok-start.start_span in
-    let behind = λ (es : List ExprTree) (v : Span). k (built (join s v) (ExprForm.call c.in-Call.word (exprs es))) in
-    let fault = c.in_err-args-in-Call.ensures.reads d h behind in
-    led_to _ _ _ _ (c.in_ok-start.ensures.reads d h k ∙ ap (λ x. bounded 64 (prim_next d k s x) (toks c.in_ok-start.rest.now)) c.in-Call.is ∙ c.in_ok-inside-in-Call.ensures.reads d h refl (λ o. want_args d behind)) (search (rules, fault))
+pub read_prim-returns-in-Call-clause-reads : goal.read_prim-returns-in-Call-clause-reads
+read_prim-returns-in-Call-clause-reads t c = λ d h k.
+    led_to _ _ _ _ (c.in_ok-start.ensures.reads d h k ∙ ap (λ x. bounded 64 (prim_next d k c.in_ok-start.start_span x) (toks c.in_ok-start.rest.now)) c.in-Call.is) (c.read_call.ensures.reads d h k)
 
-pub read_prim-returns-in_ok-some_of-in-Some-clause-reads : goal.read_prim-returns-in_ok-some_of-in-Some-clause-reads
-read_prim-returns-in_ok-some_of-in-Some-clause-reads t c = λ d h k.
-    let s = c.in_ok-start.start_span in
-    let behind = λ (e : Part ExprTree) (v : Span). k (built (join s v) (ExprForm.some_of (tree_of e))) in
-    c.in_ok-start.ensures.reads d h k ∙ ap (λ x. bounded 64 (prim_next d k s x) (toks c.in_ok-start.rest.now)) c.in-Some.is ∙ c.in_ok-inside-in-Some.ensures.reads d h refl (λ o. want_closed d behind)
-    ∙ c.in_ok-value-in-Some.ensures.reads d h behind
-    ∙ ap (λ p. bounded 64 (k p) (toks c.in_ok-value-in-Some.end.now)) (ap (λ v. built v (ExprForm.some_of (expr_view c.in_ok-value-in-Some.value))) (sym c.join-span-in-Some.ensures) ∙ ap (λ x. part x c.join-span-in-Some.result) (sym c.in_ok-some_of-in-Some.ensures))
+pub read_prim-returns-in-Match-clause-reads : goal.read_prim-returns-in-Match-clause-reads
+read_prim-returns-in-Match-clause-reads t c = λ d h k.
+    led_to _ _ _ _ (c.in_ok-start.ensures.reads d h k ∙ ap (λ x. bounded 64 (prim_next d k c.in_ok-start.start_span x) (toks c.in_ok-start.rest.now)) c.in-Match.is) (c.read_match.ensures.reads d h k)
 
-pub read_prim-returns-in_ok-args-in-Call-clause-reads : goal.read_prim-returns-in_ok-args-in-Call-clause-reads
-read_prim-returns-in_ok-args-in-Call-clause-reads t c = λ d h k.
-    let s = c.in_ok-start.start_span in
-    let behind = λ (es : List ExprTree) (v : Span). k (built (join s v) (ExprForm.call c.in-Call.word (exprs es))) in
-    c.in_ok-start.ensures.reads d h k ∙ ap (λ x. bounded 64 (prim_next d k s x) (toks c.in_ok-start.rest.now)) c.in-Call.is ∙ c.in_ok-inside-in-Call.ensures.reads d h refl (λ o. want_args d behind)
-    ∙ c.in_ok-args-in-Call.ensures.reads d h behind
-    ∙ ap (λ p. bounded 64 (k p) (toks c.in_ok-args-in-Call.end.now)) (ap (λ v. built v (ExprForm.call c.in-Call.word (exprs (map expr_view c.in_ok-args-in-Call.args)))) (sym c.join-span-in-Call.ensures) ∙ ap (λ x. part x c.join-span-in-Call.result) (sym c.call.ensures))
+pub read_prim-returns-in-Name-clause-reads : goal.read_prim-returns-in-Name-clause-reads
+read_prim-returns-in-Name-clause-reads t c = λ d h k.
+    led_to _ _ _ _ (c.in_ok-start.ensures.reads d h k ∙ ap (λ x. bounded 64 (prim_next d k c.in_ok-start.start_span x) (toks c.in_ok-start.rest.now)) c.in-Name.is) (c.read_name.ensures.reads d h k)
 
-pub read_prim-returns-in_err-inside-in-Paren-clause-reads : goal.read_prim-returns-in_err-inside-in-Paren-clause-reads
-read_prim-returns-in_err-inside-in-Paren-clause-reads t c = λ d h k.
-    let s = c.in_ok-start.start_span in
-    let fault = c.in_err-inside-in-Paren.ensures.reads d h (λ (e : Part ExprTree) (v : Span). k (in_parens s v e)) in
-    led_to _ _ _ _ (c.in_ok-start.ensures.reads d h k ∙ ap (λ x. bounded 64 (prim_next d k s x) (toks c.in_ok-start.rest.now)) c.in-Paren.is) (search (rules, fault))
+pub read_prim-returns-in-Paren-clause-reads : goal.read_prim-returns-in-Paren-clause-reads
+read_prim-returns-in-Paren-clause-reads t c = λ d h k.
+    led_to _ _ _ _ (c.in_ok-start.ensures.reads d h k ∙ ap (λ x. bounded 64 (prim_next d k c.in_ok-start.start_span x) (toks c.in_ok-start.rest.now)) c.in-Paren.is) (c.read_paren.ensures.reads d h k)
 
-pub read_prim-returns-in_ok-inside-in-Paren-clause-reads : goal.read_prim-returns-in_ok-inside-in-Paren-clause-reads
-read_prim-returns-in_ok-inside-in-Paren-clause-reads t c = λ d h k.
-    let s = c.in_ok-start.start_span in
-    c.in_ok-start.ensures.reads d h k ∙ ap (λ x. bounded 64 (prim_next d k s x) (toks c.in_ok-start.rest.now)) c.in-Paren.is ∙ c.in_ok-inside-in-Paren.ensures.reads d h (λ (e : Part ExprTree) (v : Span). k (in_parens s v e))
-    ∙ ap (λ v. bounded 64 (k (part (expr_view c.in_ok-inside-in-Paren.inside) v)) (toks c.in_ok-inside-in-Paren.end.now)) (sym c.join-span-in-Paren.ensures)
+pub read_some-returns-in_err-value-clause-reads : goal.read_some-returns-in_err-value-clause-reads
+read_some-returns-in_err-value-clause-reads t c = λ d h k.
+    let behind = λ (e : Part ExprTree) (v : Span). k (built (join c.args.start v) (ExprForm.some_of (tree_of e))) in
+    let fault = c.in_err-value.ensures.reads d h behind in
+    led_to _ _ _ _ (c.in_ok-inside.ensures.reads d h refl (λ o. want_closed d behind)) (search (rules, fault))
+
+pub read_some-returns-clause-reads : goal.read_some-returns-clause-reads
+read_some-returns-clause-reads t c = λ d h k.
+    let behind = λ (e : Part ExprTree) (v : Span). k (built (join c.args.start v) (ExprForm.some_of (tree_of e))) in
+    c.in_ok-inside.ensures.reads d h refl (λ o. want_closed d behind)
+    ∙ c.in_ok-value.ensures.reads d h behind
+    ∙ ap (λ p. bounded 64 (k p) (toks c.in_ok-value.end.now)) (ap (λ v. built v (ExprForm.some_of (expr_view c.in_ok-value.value))) (sym c.join-span.ensures) ∙ ap (λ x. part x c.join-span.result) (sym c.in_ok-some_of.ensures))
+
+pub read_call-returns-in_err-args-clause-reads : goal.read_call-returns-in_err-args-clause-reads
+read_call-returns-in_err-args-clause-reads t c = λ d h k.
+    let behind = λ (es : List ExprTree) (v : Span). k (built (join c.args.start v) (ExprForm.call c.args.word (exprs es))) in
+    let fault = c.in_err-args.ensures.reads d h behind in
+    led_to _ _ _ _ (c.in_ok-inside.ensures.reads d h refl (λ o. want_args d behind)) (search (rules, fault))
+
+pub read_call-returns-clause-reads : goal.read_call-returns-clause-reads
+read_call-returns-clause-reads t c = λ d h k.
+    let behind = λ (es : List ExprTree) (v : Span). k (built (join c.args.start v) (ExprForm.call c.args.word (exprs es))) in
+    c.in_ok-inside.ensures.reads d h refl (λ o. want_args d behind)
+    ∙ c.in_ok-args.ensures.reads d h behind
+    ∙ ap (λ p. bounded 64 (k p) (toks c.in_ok-args.end.now)) (ap (λ v. built v (ExprForm.call c.args.word (exprs (map expr_view c.in_ok-args.args)))) (sym c.join-span.ensures) ∙ ap (λ x. part x c.join-span.result) (sym c.call.ensures))
+
+pub read_paren-returns-in_err-inside-clause-reads : goal.read_paren-returns-in_err-inside-clause-reads
+read_paren-returns-in_err-inside-clause-reads t c = λ d h k.
+    let fault = c.in_err-inside.ensures.reads d h (λ (e : Part ExprTree) (v : Span). k (in_parens c.args.start v e)) in
+    search (rules, fault)
+
+pub read_paren-returns-clause-reads : goal.read_paren-returns-clause-reads
+read_paren-returns-clause-reads t c = λ d h k.
+    c.in_ok-inside.ensures.reads d h (λ (e : Part ExprTree) (v : Span). k (in_parens c.args.start v e))
+    ∙ ap (λ v. bounded 64 (k (part (expr_view c.in_ok-inside.inside) v)) (toks c.in_ok-inside.end.now)) (sym c.join-span.ensures)
 
 pub read_match-returns-in_err-value-clause-reads : goal.read_match-returns-in_err-value-clause-reads
 read_match-returns-in_err-value-clause-reads t c = λ d h k.
@@ -363,32 +378,32 @@ read_match-returns-in_err-value-clause-reads t c = λ d h k.
     let fault = c.in_err-value.ensures.reads d h behind in
     led_to _ _ _ _ (c.in_ok-inside.ensures.reads d h refl (λ o. want_closed d behind)) (search (rules, fault))
 
-pub read_match-returns-in_err-inside-2-clause-reads : goal.read_match-returns-in_err-inside-2-clause-reads
-read_match-returns-in_err-inside-2-clause-reads t c = λ d h k.
+pub read_match-returns-in-Err-clause-reads : goal.read_match-returns-in-Err-clause-reads
+read_match-returns-in-Err-clause-reads t c = λ d h k.
     let s = c.args.start in
     let deeper = ap suc h ∙ sym (add-one c.args.depth) in
     let behind = λ (e : Part ExprTree) (v : Span). want_symbol symbol.OpenBrace refl d (λ b. want_expr_arms (suc d) (λ as_. want_symbol symbol.CloseBrace refl d (λ x. k (built (join s x) (ExprForm.match (tree_of e) (expr_arms as_)))))) in
     let close = λ (as_ : List ExprArmTree). want_symbol symbol.CloseBrace refl d (λ x. k (built (join s x) (ExprForm.match (expr_view c.in_ok-value.value) (expr_arms as_)))) in
-    let fault = c.in_err-inside-2.ensures.reads d h refl (λ b. want_expr_arms (suc d) close) in
-    led_to _ _ _ _ (c.in_ok-inside.ensures.reads d h refl (λ o. want_closed d behind) ∙ c.in_ok-value.ensures.reads d h behind) (search (rules, fault))
+    let fault = c.in-Err.ensures.reads d h refl (λ b. want_expr_arms (suc d) close) in
+    subst (λ o. Faults c.lost.result o) (sym (c.in_ok-inside.ensures.reads d h refl (λ o. want_closed d behind) ∙ c.in_ok-value.ensures.reads d h behind)) (let_go _ _ _ c.lost.ensures fault)
 
-pub read_match-returns-in_err-arms-clause-reads : goal.read_match-returns-in_err-arms-clause-reads
-read_match-returns-in_err-arms-clause-reads t c = λ d h k.
+pub read_match-returns-in-Err-read_arms-clause-reads : goal.read_match-returns-in-Err-read_arms-clause-reads
+read_match-returns-in-Err-read_arms-clause-reads t c = λ d h k.
     let s = c.args.start in
     let deeper = ap suc h ∙ sym (add-one c.args.depth) in
     let behind = λ (e : Part ExprTree) (v : Span). want_symbol symbol.OpenBrace refl d (λ b. want_expr_arms (suc d) (λ as_. want_symbol symbol.CloseBrace refl d (λ x. k (built (join s x) (ExprForm.match (tree_of e) (expr_arms as_)))))) in
     let close = λ (as_ : List ExprArmTree). want_symbol symbol.CloseBrace refl d (λ x. k (built (join s x) (ExprForm.match (expr_view c.in_ok-value.value) (expr_arms as_)))) in
-    let fault = c.in_err-arms.ensures.reads (suc d) deeper close in
-    led_to _ _ _ _ (c.in_ok-inside.ensures.reads d h refl (λ o. want_closed d behind) ∙ c.in_ok-value.ensures.reads d h behind ∙ c.in_ok-inside-2.ensures.reads d h refl (λ b. want_expr_arms (suc d) close)) (search (rules, fault))
+    let fault = c.in-Err-read_arms.ensures.reads (suc d) deeper close in
+    subst (λ o. Faults c.lost-in-Err-read_arms.result o) (sym (c.in_ok-inside.ensures.reads d h refl (λ o. want_closed d behind) ∙ c.in_ok-value.ensures.reads d h behind ∙ c.in-Ok.ensures.reads d h refl (λ b. want_expr_arms (suc d) close))) (let_go _ _ _ c.lost-in-Err-read_arms.ensures fault)
 
-pub read_match-returns-in_err-close-clause-reads : goal.read_match-returns-in_err-close-clause-reads
-read_match-returns-in_err-close-clause-reads t c = λ d h k.
+pub read_match-returns-in-Err-symbol-clause-reads : goal.read_match-returns-in-Err-symbol-clause-reads
+read_match-returns-in-Err-symbol-clause-reads t c = λ d h k.
     let s = c.args.start in
     let deeper = ap suc h ∙ sym (add-one c.args.depth) in
     let behind = λ (e : Part ExprTree) (v : Span). want_symbol symbol.OpenBrace refl d (λ b. want_expr_arms (suc d) (λ as_. want_symbol symbol.CloseBrace refl d (λ x. k (built (join s x) (ExprForm.match (tree_of e) (expr_arms as_)))))) in
     let close = λ (as_ : List ExprArmTree). want_symbol symbol.CloseBrace refl d (λ x. k (built (join s x) (ExprForm.match (expr_view c.in_ok-value.value) (expr_arms as_)))) in
-    let fault = c.in_err-close.ensures.reads d h refl (λ x. k (built (join s x) (ExprForm.match (expr_view c.in_ok-value.value) (expr_arms (map expr_arm_view c.in_ok-arms.arms))))) in
-    led_to _ _ _ _ (c.in_ok-inside.ensures.reads d h refl (λ o. want_closed d behind) ∙ c.in_ok-value.ensures.reads d h behind ∙ c.in_ok-inside-2.ensures.reads d h refl (λ b. want_expr_arms (suc d) close) ∙ c.in_ok-arms.ensures.reads (suc d) deeper close) (search (rules, fault))
+    let fault = c.in-Err-symbol.ensures.reads d h refl (λ x. k (built (join s x) (ExprForm.match (expr_view c.in_ok-value.value) (expr_arms (map expr_arm_view c.in-Ok-read_arms.read.0))))) in
+    subst (λ o. Faults c.lost-in-Err-symbol.result o) (sym (c.in_ok-inside.ensures.reads d h refl (λ o. want_closed d behind) ∙ c.in_ok-value.ensures.reads d h behind ∙ c.in-Ok.ensures.reads d h refl (λ b. want_expr_arms (suc d) close) ∙ c.in-Ok-read_arms.ensures.reads (suc d) deeper close)) (let_go _ _ _ c.lost-in-Err-symbol.ensures fault)
 
 pub read_match-returns-clause-reads : goal.read_match-returns-clause-reads
 read_match-returns-clause-reads t c = λ d h k.
@@ -396,5 +411,5 @@ read_match-returns-clause-reads t c = λ d h k.
     let deeper = ap suc h ∙ sym (add-one c.args.depth) in
     let behind = λ (e : Part ExprTree) (v : Span). want_symbol symbol.OpenBrace refl d (λ b. want_expr_arms (suc d) (λ as_. want_symbol symbol.CloseBrace refl d (λ x. k (built (join s x) (ExprForm.match (tree_of e) (expr_arms as_)))))) in
     let close = λ (as_ : List ExprArmTree). want_symbol symbol.CloseBrace refl d (λ x. k (built (join s x) (ExprForm.match (expr_view c.in_ok-value.value) (expr_arms as_)))) in
-    c.in_ok-inside.ensures.reads d h refl (λ o. want_closed d behind) ∙ c.in_ok-value.ensures.reads d h behind ∙ c.in_ok-inside-2.ensures.reads d h refl (λ b. want_expr_arms (suc d) close) ∙ c.in_ok-arms.ensures.reads (suc d) deeper close ∙ c.in_ok-close.ensures.reads d h refl (λ x. k (built (join s x) (ExprForm.match (expr_view c.in_ok-value.value) (expr_arms (map expr_arm_view c.in_ok-arms.arms)))))
-    ∙ ap (λ p. bounded 64 (k p) (toks c.in_ok-close.end.now)) (ap (λ v. built v (ExprForm.match (expr_view c.in_ok-value.value) (expr_arms (map expr_arm_view c.in_ok-arms.arms)))) (sym c.join-span.ensures) ∙ ap (λ x. part x c.join-span.result) (sym c.in_ok-match_.ensures))
+    c.in_ok-inside.ensures.reads d h refl (λ o. want_closed d behind) ∙ c.in_ok-value.ensures.reads d h behind ∙ c.in-Ok.ensures.reads d h refl (λ b. want_expr_arms (suc d) close) ∙ c.in-Ok-read_arms.ensures.reads (suc d) deeper close ∙ c.in-Ok-symbol.ensures.reads d h refl (λ x. k (built (join s x) (ExprForm.match (expr_view c.in_ok-value.value) (expr_arms (map expr_arm_view c.in-Ok-read_arms.read.0)))))
+    ∙ ap (λ p. bounded 64 (k p) (toks c.in-Ok-symbol.read.1.now)) (ap (λ v. built v (ExprForm.match (expr_view c.in_ok-value.value) (expr_arms (map expr_arm_view c.in-Ok-read_arms.read.0)))) (sym c.join-span.ensures) ∙ ap (λ x. part x c.join-span.result) (sym c.in_ok-match_.ensures))

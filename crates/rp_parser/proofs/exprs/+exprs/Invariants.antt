@@ -6,7 +6,7 @@ use Rattle.rp_ast.specs.View.{expr_view, expr_arm_view, step_view}
 use Rattle.rp_tokens.specs.MachineStates.{State, want_operand, more_and, more_or, more_exprs, more_expr_arms, in_access}
 use Rattle.rp_tokens.specs.MachineExprs.{want_andx, want_exprs, want_expr_arms}
 use Rattle.rp_tokens.specs.Machine.{bounded}
-use Rattle.rp_parser.specs.Marks.{toks, next_is}
+use Rattle.rp_parser.specs.means.Marks.{toks, next_is}
 use Rattle.rp_parser.proofs.exprs.+exprs.Given as goal
 
 abbrev pub decreases-read_prim : goal.decreases-read_prim
@@ -65,6 +65,18 @@ decreases-read_access_args l = 10 * length l.marks.now + 9
 
 abbrev pub decreases-read_access : goal.decreases-read_access
 decreases-read_access l = 10 * length l.marks.now + 1
+
+abbrev pub decreases-read_some : goal.decreases-read_some
+decreases-read_some l = 10 * length l.marks.now
+
+abbrev pub decreases-read_call : goal.decreases-read_call
+decreases-read_call l = 10 * length l.marks.now
+
+abbrev pub decreases-read_name : goal.decreases-read_name
+decreases-read_name l = 10 * length l.marks.now + 2
+
+abbrev pub decreases-read_paren : goal.decreases-read_paren
+decreases-read_paren l = 10 * length l.marks.now + 8
 
 abbrev pub decreases-read_match : goal.decreases-read_match
 decreases-read_match l = 10 * length l.marks.now

@@ -1,5 +1,5 @@
 use Rattle.std.proofs.Common.{◌≡◌, ◌++◌, length}
-use Rattle.rp_parser.specs.Marks.{meant}
+use Rattle.rp_parser.specs.means.Marks.{meant}
 use Rattle.rp_parser.proofs.leaves.meant_bytes.Given as goal
 
 abbrev pub invariant-bytes : goal.invariant-bytes

@@ -1,7 +1,7 @@
 use Rattle.std.proofs.Common.{ap, arith}
 use Rattle.rp_grammar.specs.Trees.{ident}
 use Rattle.rp_tokens.specs.MachineStates.{want_name, name_step}
-use Rattle.rp_parser.specs.Marks.{terminal_of}
+use Rattle.rp_parser.specs.means.Marks.{terminal_of}
 use Rattle.rp_parser.proofs.Steps.{refuses, too_deep}
 use Rattle.rp_parser.proofs.Moves.{no_name}
 use Rattle.rp_parser.proofs.next.name.Goals as goal

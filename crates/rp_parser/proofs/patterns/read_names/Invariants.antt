@@ -3,7 +3,7 @@ use Rattle.rp_grammar.specs.Trees.{Ident}
 use Rattle.rp_ast.specs.View.{ident_view}
 use Rattle.rp_tokens.specs.MachineStates.{State, want_name, more_names}
 use Rattle.rp_tokens.specs.Machine.{bounded}
-use Rattle.rp_parser.specs.Marks.{toks}
+use Rattle.rp_parser.specs.means.Marks.{toks}
 use Rattle.rp_parser.proofs.patterns.read_names.Given as goal
 
 abbrev pub invariant-loop-after : goal.invariant-loop-after

@@ -1,6 +1,6 @@
 use Rattle.std.proofs.Common.{subst}
 use Rattle.std.specs.List.{AllByRecursion}
-use Rattle.rp_parser.specs.Marks.{IsReadable}
+use Rattle.rp_parser.specs.means.Marks.{IsReadable}
 use Rattle.rp_parser.proofs.Readable.{all_read, one_read}
 use Rattle.rp_parser.proofs.reading.marks_of.Goals as goal
 

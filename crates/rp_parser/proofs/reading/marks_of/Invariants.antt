@@ -2,7 +2,7 @@ use Rattle.std.proofs.Common.{List, ◌++◌, length}
 use Rattle.std.specs.List.{AllByRecursion}
 use Rattle.rp_grammar.specs.Terminals.{Tok}
 use Rattle.rp_grammar.specs.Toks.{ToksOf}
-use Rattle.rp_parser.specs.Marks.{toks, IsReadable}
+use Rattle.rp_parser.specs.means.Marks.{toks, IsReadable}
 use Rattle.rp_parser.proofs.reading.marks_of.Given as goal
 
 abbrev pub invariant-tokens : goal.invariant-tokens

@@ -5,7 +5,7 @@ use Rattle.rp_grammar.specs.Parts.{join}
 use Rattle.rp_ast.specs.View.{expr_view}
 use Rattle.rp_tokens.specs.MachineStmts.{want_sentence}
 use Rattle.rp_tokens.specs.Machine.{bounded}
-use Rattle.rp_parser.specs.Marks.{toks}
+use Rattle.rp_parser.specs.means.Marks.{toks}
 use Rattle.rp_parser.proofs.Steps.{led_to}
 use Rattle.rp_parser.proofs.sentences.read_return.Goals as goal
 

@@ -5,8 +5,8 @@ use Rattle.rp_grammar.specs.Parts.{join}
 use Rattle.rp_ast.specs.View.{ident_view, expr_view}
 use Rattle.rp_tokens.specs.MachineStmts.{want_sentence}
 use Rattle.rp_tokens.specs.Machine.{bounded}
-use Rattle.rp_parser.specs.Marks.{toks}
-use Rattle.rp_parser.specs.Sentences.{want_new}
+use Rattle.rp_parser.specs.means.Marks.{toks}
+use Rattle.rp_parser.specs.means.Sentences.{want_new}
 use Rattle.rp_parser.proofs.Steps.{led_to}
 use Rattle.rp_parser.proofs.sentences.read_value.Goals as goal
 

@@ -1,6 +1,6 @@
 use Rattle.std.proofs.Common.{arith}
 use Rattle.rp_tokens.specs.MachineStates.{want_crdt}
-use Rattle.rp_parser.specs.Starts.{crdt_next}
+use Rattle.rp_parser.specs.means.Starts.{crdt_next}
 use Rattle.rp_parser.proofs.Steps.{takes, refuses, too_deep}
 use Rattle.rp_parser.proofs.starts.crdt_first.Goals as goal
 

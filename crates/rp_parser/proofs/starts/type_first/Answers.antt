@@ -1,6 +1,6 @@
 use Rattle.std.proofs.Common.{arith}
 use Rattle.rp_tokens.specs.MachineStates.{want_type}
-use Rattle.rp_parser.specs.Starts.{type_next}
+use Rattle.rp_parser.specs.means.Starts.{type_next}
 use Rattle.rp_parser.proofs.Steps.{takes, refuses, too_deep}
 use Rattle.rp_parser.proofs.starts.type_first.Goals as goal
 

@@ -8,11 +8,12 @@ use Rattle.rp_ast.specs.View.{pattern_view, expr_view, stmt_view, block_view, bl
 use Rattle.rp_tokens.specs.MachineStates.{want_symbol, in_stmts, more_if, in_block_arms}
 use Rattle.rp_tokens.specs.MachineStmts.{in_block, want_block, in_block_arm, in_named}
 use Rattle.rp_tokens.specs.Machine.{bounded}
-use Rattle.rp_parser.specs.Marks.{toks}
-use Rattle.rp_parser.specs.Blocks.{in_arm}
-use Rattle.rp_parser.specs.StmtStarts.{stmt_next, else_next, IsWithin}
+use Rattle.rp_parser.specs.means.Marks.{toks}
+use Rattle.rp_parser.specs.means.Reading.{Faults}
+use Rattle.rp_parser.specs.means.Blocks.{in_arm}
+use Rattle.rp_parser.specs.means.StmtStarts.{stmt_next, else_next, IsWithin}
 use Rattle.rp_parser.proofs.Lists.{map_pushed, map_one}
-use Rattle.rp_parser.proofs.Steps.{led_to, marks_longer}
+use Rattle.rp_parser.proofs.Steps.{led_to, let_go, marks_longer}
 use Rattle.rp_parser.proofs.stmts.+stmts.Goals as goal
 
 pub read_block-returns-in_err-stmts-clause-reads : goal.read_block-returns-in_err-stmts-clause-reads
@@ -207,49 +208,49 @@ read_if-returns-in_err-condition-clause-reads t c = λ d h k.
     let fault = c.in_err-condition.ensures.reads d h tested in
     search (rules, fault)
 
-pub read_if-returns-in_err-body-clause-reads : goal.read_if-returns-in_err-body-clause-reads
-read_if-returns-in_err-body-clause-reads t c = λ d h k.
+pub read_if-returns-in-Err-clause-reads : goal.read_if-returns-in-Err-clause-reads
+read_if-returns-in-Err-clause-reads t c = λ d h k.
     let s = c.args.start in
     let tested = λ (e : Part ExprTree) (z : Span). want_block d (λ b. more_if d s (tree_of e) b k) in
     let e = expr_view c.in_ok-condition.condition in
-    let fault = c.in_err-body.ensures.reads d h (λ b. more_if d s e b k) in
-    led_to _ _ _ _ (c.in_ok-condition.ensures.reads d h tested) (search (rules, fault))
+    let fault = c.in-Err.ensures.reads d h (λ b. more_if d s e b k) in
+    subst (λ o. Faults c.lost.result o) (sym (c.in_ok-condition.ensures.reads d h tested)) (let_go _ _ _ c.lost.ensures fault)
 
 pub read_if-returns-in_default-clause-reads : goal.read_if-returns-in_default-clause-reads
 read_if-returns-in_default-clause-reads t c = λ d h k.
     let s = c.args.start in
     let tested = λ (e : Part ExprTree) (z : Span). want_block d (λ b. more_if d s (tree_of e) b k) in
     let e = expr_view c.in_ok-condition.condition in
-    let b = block_view c.in_ok-body.body in
-    let end = toks c.in_ok-body.after.now in
+    let b = block_view c.in-Ok.read.0 in
+    let end = toks c.in-Ok.read.1.now in
     c.in_ok-condition.ensures.reads d h tested
-    ∙ c.in_ok-body.ensures.reads d h (λ b. more_if d s e b k)
+    ∙ c.in-Ok.ensures.reads d h (λ b. more_if d s e b k)
     ∙ c.in_default.ensures.reads d h s e b k
     ∙ ap (λ v. bounded 64 (k (StmtTree.node (join s v) (StmtForm.if_ e b ElseTree.no_else))) end) (sym c.span_of_block.ensures)
     ∙ ap (λ v. bounded 64 (k (StmtTree.node v (StmtForm.if_ e b ElseTree.no_else))) end) (sym c.join-span.ensures)
     ∙ ap (λ x. bounded 64 (k x) end) (sym c.if_.ensures)
 
-pub read_if-returns-in_err-otherwise-clause-reads : goal.read_if-returns-in_err-otherwise-clause-reads
-read_if-returns-in_err-otherwise-clause-reads t c = λ d h k.
+pub read_if-returns-in-Err-read_else-clause-reads : goal.read_if-returns-in-Err-read_else-clause-reads
+read_if-returns-in-Err-read_else-clause-reads t c = λ d h k.
     let s = c.args.start in
     let tested = λ (e : Part ExprTree) (z : Span). want_block d (λ b. more_if d s (tree_of e) b k) in
     let e = expr_view c.in_ok-condition.condition in
-    let b = block_view c.in_ok-body.body in
-    let fault = c.in_err-otherwise.ensures.reads d h s e b k in
-    led_to _ _ _ _ (c.in_ok-condition.ensures.reads d h tested ∙ c.in_ok-body.ensures.reads d h (λ b. more_if d s e b k) ∙ c.in-Some.ensures.reads d h s e b k) (search (rules, fault))
+    let b = block_view c.in-Ok.read.0 in
+    let fault = c.in-Err-read_else.ensures.reads d h s e b k in
+    subst (λ o. Faults c.lost-in-Err-read_else-2.result o) (sym (c.in_ok-condition.ensures.reads d h tested ∙ c.in-Ok.ensures.reads d h (λ b. more_if d s e b k) ∙ c.in-Some.ensures.reads d h s e b k)) (let_go _ _ _ (c.lost-in-Err-read_else-2.ensures ∙ c.lost-in-Err-read_else.ensures) fault)
 
 pub read_if-returns-clause-reads : goal.read_if-returns-clause-reads
 read_if-returns-clause-reads t c = λ d h k.
     let s = c.args.start in
     let tested = λ (e : Part ExprTree) (z : Span). want_block d (λ b. more_if d s (tree_of e) b k) in
     let e = expr_view c.in_ok-condition.condition in
-    let b = block_view c.in_ok-body.body in
-    let x = else_view c.in_ok-otherwise.otherwise in
-    let end = toks c.in_ok-otherwise.end.now in
+    let b = block_view c.in-Ok.read.0 in
+    let x = else_view c.in-Ok-read_else.read.0 in
+    let end = toks c.in-Ok-read_else.read.2.now in
     c.in_ok-condition.ensures.reads d h tested
-    ∙ c.in_ok-body.ensures.reads d h (λ b. more_if d s e b k)
+    ∙ c.in-Ok.ensures.reads d h (λ b. more_if d s e b k)
     ∙ c.in-Some.ensures.reads d h s e b k
-    ∙ c.in_ok-otherwise.ensures.reads d h s e b k
+    ∙ c.in-Ok-read_else.ensures.reads d h s e b k
     ∙ ap (λ v. bounded 64 (k (StmtTree.node v (StmtForm.if_ e b x))) end) (sym c.join-span-2.ensures)
     ∙ ap (λ x. bounded 64 (k x) end) (sym c.if_-2.ensures)
 
@@ -304,36 +305,36 @@ read_match-returns-in_err-value-clause-reads t c = λ d h k.
     let fault = c.in_err-value.ensures.reads d h valued in
     search (rules, fault)
 
-pub read_match-returns-in_err-inside-clause-reads : goal.read_match-returns-in_err-inside-clause-reads
-read_match-returns-in_err-inside-clause-reads t c = λ d h k.
+pub read_match-returns-in-Err-clause-reads : goal.read_match-returns-in-Err-clause-reads
+read_match-returns-in-Err-clause-reads t c = λ d h k.
     let s = c.args.start in
     let valued = λ (e : Part ExprTree) (z : Span). want_symbol symbol.OpenBrace refl d (λ o. in_block_arms (suc d) [] (λ xs. want_symbol symbol.CloseBrace refl d (λ z. k (StmtTree.node (join s z) (StmtForm.match (tree_of e) (block_arms xs)))))) in
     let e = expr_view c.in_ok-value.value in
     let closed = λ (xs : List BlockArmTree). want_symbol symbol.CloseBrace refl d (λ z. k (StmtTree.node (join s z) (StmtForm.match e (block_arms xs)))) in
-    let fault = c.in_err-inside.ensures.reads d h refl (λ o. in_block_arms (suc d) [] closed) in
-    led_to _ _ _ _ (c.in_ok-value.ensures.reads d h valued) (search (rules, fault))
+    let fault = c.in-Err.ensures.reads d h refl (λ o. in_block_arms (suc d) [] closed) in
+    subst (λ o. Faults c.lost.result o) (sym (c.in_ok-value.ensures.reads d h valued)) (let_go _ _ _ c.lost.ensures fault)
 
-pub read_match-returns-in_err-arms-clause-reads : goal.read_match-returns-in_err-arms-clause-reads
-read_match-returns-in_err-arms-clause-reads t c = λ d h k.
+pub read_match-returns-in-Err-read_arms-clause-reads : goal.read_match-returns-in-Err-read_arms-clause-reads
+read_match-returns-in-Err-read_arms-clause-reads t c = λ d h k.
     let s = c.args.start in
     let deeper = ap suc h ∙ sym (add-one c.args.depth) in
     let valued = λ (e : Part ExprTree) (z : Span). want_symbol symbol.OpenBrace refl d (λ o. in_block_arms (suc d) [] (λ xs. want_symbol symbol.CloseBrace refl d (λ z. k (StmtTree.node (join s z) (StmtForm.match (tree_of e) (block_arms xs)))))) in
     let e = expr_view c.in_ok-value.value in
     let closed = λ (xs : List BlockArmTree). want_symbol symbol.CloseBrace refl d (λ z. k (StmtTree.node (join s z) (StmtForm.match e (block_arms xs)))) in
-    let fault = c.in_err-arms.ensures.reads (suc d) deeper closed in
-    led_to _ _ _ _ (c.in_ok-value.ensures.reads d h valued ∙ c.in_ok-inside.ensures.reads d h refl (λ o. in_block_arms (suc d) [] closed)) (search (rules, fault))
+    let fault = c.in-Err-read_arms.ensures.reads (suc d) deeper closed in
+    subst (λ o. Faults c.lost-in-Err-read_arms.result o) (sym (c.in_ok-value.ensures.reads d h valued ∙ c.in-Ok.ensures.reads d h refl (λ o. in_block_arms (suc d) [] closed))) (let_go _ _ _ c.lost-in-Err-read_arms.ensures fault)
 
-pub read_match-returns-in_err-close-clause-reads : goal.read_match-returns-in_err-close-clause-reads
-read_match-returns-in_err-close-clause-reads t c = λ d h k.
+pub read_match-returns-in-Err-symbol-clause-reads : goal.read_match-returns-in-Err-symbol-clause-reads
+read_match-returns-in-Err-symbol-clause-reads t c = λ d h k.
     let s = c.args.start in
     let deeper = ap suc h ∙ sym (add-one c.args.depth) in
     let valued = λ (e : Part ExprTree) (z : Span). want_symbol symbol.OpenBrace refl d (λ o. in_block_arms (suc d) [] (λ xs. want_symbol symbol.CloseBrace refl d (λ z. k (StmtTree.node (join s z) (StmtForm.match (tree_of e) (block_arms xs)))))) in
     let e = expr_view c.in_ok-value.value in
     let closed = λ (xs : List BlockArmTree). want_symbol symbol.CloseBrace refl d (λ z. k (StmtTree.node (join s z) (StmtForm.match e (block_arms xs)))) in
-    let xs = map block_arm_view c.in_ok-arms.arms in
+    let xs = map block_arm_view c.in-Ok-read_arms.read.0 in
     let ended = λ (z : Span). k (StmtTree.node (join s z) (StmtForm.match e (block_arms xs))) in
-    let fault = c.in_err-close.ensures.reads d h refl ended in
-    led_to _ _ _ _ (c.in_ok-value.ensures.reads d h valued ∙ c.in_ok-inside.ensures.reads d h refl (λ o. in_block_arms (suc d) [] closed) ∙ c.in_ok-arms.ensures.reads (suc d) deeper closed) (search (rules, fault))
+    let fault = c.in-Err-symbol.ensures.reads d h refl ended in
+    subst (λ o. Faults c.lost-in-Err-symbol.result o) (sym (c.in_ok-value.ensures.reads d h valued ∙ c.in-Ok.ensures.reads d h refl (λ o. in_block_arms (suc d) [] closed) ∙ c.in-Ok-read_arms.ensures.reads (suc d) deeper closed)) (let_go _ _ _ c.lost-in-Err-symbol.ensures fault)
 
 pub read_match-returns-clause-reads : goal.read_match-returns-clause-reads
 read_match-returns-clause-reads t c = λ d h k.
@@ -342,13 +343,13 @@ read_match-returns-clause-reads t c = λ d h k.
     let valued = λ (e : Part ExprTree) (z : Span). want_symbol symbol.OpenBrace refl d (λ o. in_block_arms (suc d) [] (λ xs. want_symbol symbol.CloseBrace refl d (λ z. k (StmtTree.node (join s z) (StmtForm.match (tree_of e) (block_arms xs)))))) in
     let e = expr_view c.in_ok-value.value in
     let closed = λ (xs : List BlockArmTree). want_symbol symbol.CloseBrace refl d (λ z. k (StmtTree.node (join s z) (StmtForm.match e (block_arms xs)))) in
-    let xs = map block_arm_view c.in_ok-arms.arms in
+    let xs = map block_arm_view c.in-Ok-read_arms.read.0 in
     let ended = λ (z : Span). k (StmtTree.node (join s z) (StmtForm.match e (block_arms xs))) in
-    let end = toks c.in_ok-close.end.now in
+    let end = toks c.in-Ok-symbol.read.1.now in
     c.in_ok-value.ensures.reads d h valued
-    ∙ c.in_ok-inside.ensures.reads d h refl (λ o. in_block_arms (suc d) [] closed)
-    ∙ c.in_ok-arms.ensures.reads (suc d) deeper closed
-    ∙ c.in_ok-close.ensures.reads d h refl ended
+    ∙ c.in-Ok.ensures.reads d h refl (λ o. in_block_arms (suc d) [] closed)
+    ∙ c.in-Ok-read_arms.ensures.reads (suc d) deeper closed
+    ∙ c.in-Ok-symbol.ensures.reads d h refl ended
     ∙ ap (λ v. bounded 64 (k (StmtTree.node v (StmtForm.match e (block_arms xs)))) end) (sym c.join-span.ensures)
     ∙ ap (λ x. bounded 64 (k x) end) (sym c.match_.ensures)
 

@@ -3,7 +3,7 @@ use Rattle.rp_grammar.specs.Trees.{StmtTree, BlockArmTree}
 use Rattle.rp_ast.specs.View.{stmt_view, block_arm_view}
 use Rattle.rp_tokens.specs.MachineStates.{State, in_stmts, in_block_arms}
 use Rattle.rp_tokens.specs.Machine.{bounded}
-use Rattle.rp_parser.specs.Marks.{toks}
+use Rattle.rp_parser.specs.means.Marks.{toks}
 use Rattle.rp_parser.proofs.stmts.+stmts.Given as goal
 
 abbrev pub decreases-read_block : goal.decreases-read_block

@@ -1,7 +1,7 @@
 use Rattle.std.proofs.Common.{sym, subst}
 use Rattle.std.specs.List.{AllByRecursion}
 use Rattle.rp_grammar.proofs.Toks.{text_ends_in_end}
-use Rattle.rp_parser.specs.Marks.{toks, IsReadable}
+use Rattle.rp_parser.specs.means.Marks.{toks, IsReadable}
 use Rattle.rp_parser.proofs.Readable.{all_readable}
 use Rattle.rp_parser.proofs.Whole.{text_toks, few_marks, fault_of, every_tree, every_bad, every_too_deep}
 use Rattle.rp_parser.proofs.text.parse.Goals as goal

@@ -2,7 +2,7 @@ use Rattle.rp_ast.specs.View.{decls_view}
 use Rattle.std.proofs.Common.{◌-◌, subst}
 use Rattle.rp_grammar.specs.Begins.{IsFirstBad, IsTooDeep}
 use Rattle.rp_tokens.proofs.Places.{found_tree}
-use Rattle.rp_parser.specs.Marks.{toks}
+use Rattle.rp_parser.specs.means.Marks.{toks}
 use Rattle.rp_parser.proofs.Steps.{length_toks}
 use Rattle.rp_parser.proofs.Whole.{bad, too_deep_at, fits}
 use Rattle.rp_parser.proofs.text.tree_of_marks.Goals as goal

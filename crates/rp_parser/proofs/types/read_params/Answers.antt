@@ -2,7 +2,7 @@ use Rattle.std.proofs.Common.{arith, ap, ◌∙◌, [], ◌∷◌, ◌++◌, map
 use Rattle.rp_ast.specs.View.{param_view}
 use Rattle.rp_tokens.specs.MachineStates.{more_params}
 use Rattle.rp_tokens.specs.Machine.{bounded}
-use Rattle.rp_parser.specs.Marks.{toks}
+use Rattle.rp_parser.specs.means.Marks.{toks}
 use Rattle.rp_parser.proofs.Lists.{map_pushed}
 use Rattle.rp_parser.proofs.types.read_params.Goals as goal
 

@@ -4,7 +4,7 @@ use Rattle.rp_ast.specs.View.{param_view}
 use Rattle.rp_tokens.specs.MachineStates.{State, more_params}
 use Rattle.rp_tokens.specs.MachineTypes.{want_params}
 use Rattle.rp_tokens.specs.Machine.{bounded}
-use Rattle.rp_parser.specs.Marks.{toks}
+use Rattle.rp_parser.specs.means.Marks.{toks}
 use Rattle.rp_parser.proofs.types.read_params.Given as goal
 
 abbrev pub invariant-loop-after : goal.invariant-loop-after

@@ -14,7 +14,7 @@ use Rattle.rp_parser.specs.declared.expr_starts.QuantifierKind.{QuantifierKind}
 use Rattle.rp_parser.specs.declared.expr_starts.QuantifierKind.TheVariants as kind
 use Rattle.rp_parser.specs.declared.expr_starts.OperandStart.{OperandStart}
 use Rattle.rp_parser.specs.declared.expr_starts.OperandStart.TheVariants as operand
-use Rattle.rp_parser.specs.Marks.{meant}
+use Rattle.rp_parser.specs.means.Marks.{meant}
 
 abbrev pub leaf_form : Leaf → ExprForm
 leaf_form (leaf.Number i) = ExprForm.int (pos i)
