@@ -17,7 +17,8 @@ pub fn reshaping_keeps_meaning()
         → AreSorted S added (s ∷ scope) parts → eliminated parts ≡ Some g → MeansSame S added scope g (All s (Or parts)) }
     ensures eliminates_some { (S : Signature) (added : List NewConst) (scope : List ℕ) (s : ℕ) (parts : Fms) (g : Fm)
         → AreSorted S added (s ∷ scope) parts → eliminated_some parts ≡ Some g → MeansSame S added scope g (Ex s (And parts)) }
-    ensures swaps { (M : Meaning) (vars : List Elem) (r s : ℕ) (f : Fm) → Holds M vars (All s (All r (filled_in swapped f))) ↔ Holds M vars (All r (All s f)) }
+    ensures swaps { (M : Meaning) (vars : List Elem) (r s : ℕ) (f : Fm)
+        → Holds M vars (All s (All r (filled_in swapped f))) ↔ Holds M vars (All r (All s f)) }
     ensures comes_out { (M : Meaning) (vars : List Elem) (s : ℕ) (f : Fm) (fs : Fms)
         → Holds M vars (All s (Or (also_fm f (filled_ins behind fs)))) ↔ Holds M vars (Or (also_fm (All s f) fs)) }
 {}
@@ -32,8 +33,10 @@ pub fn eliminations_are_sorted()
 
 /// Parts of parts join the parts around them, and any part of an `or` may stand first.
 pub fn parts_join()
-    ensures disjuncts { (gs fs : Fms) (M : Meaning) (vars : List Elem) → Holds M vars (Or (joined gs fs)) ↔ Holds M vars (Or (also_fm (Or gs) fs)) }
-    ensures conjuncts { (gs fs : Fms) (M : Meaning) (vars : List Elem) → Holds M vars (And (joined gs fs)) ↔ Holds M vars (And (also_fm (And gs) fs)) }
+    ensures disjuncts { (gs fs : Fms) (M : Meaning) (vars : List Elem)
+        → Holds M vars (Or (joined gs fs)) ↔ Holds M vars (Or (also_fm (Or gs) fs)) }
+    ensures conjuncts { (gs fs : Fms) (M : Meaning) (vars : List Elem)
+        → Holds M vars (And (joined gs fs)) ↔ Holds M vars (And (also_fm (And gs) fs)) }
     ensures first { (fs : Fms) (f : Fm) (gs : Fms) (M : Meaning) (vars : List Elem)
         → Holds M vars (Or (also_fm f (joined fs gs))) ↔ Holds M vars (Or (joined fs (also_fm f gs))) }
 {}
