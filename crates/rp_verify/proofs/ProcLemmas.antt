@@ -1,5 +1,5 @@
 -- Procedures one after another: their paths, their goals and what is found of them.
-use Rattle.std.proofs.Common.{◌≡◌, ℕ, ◌+◌, ◌<◌, ◌≤◌, min, Bool, true, cond, filter, option_map, List, [], ◌∷◌, ◌++◌, length, map, sum_by, take, drop, get_or, All, Some, IfSome, slice_get, refl, sym, ◌∙◌, ap, subst, arith, append_assoc}
+use Rattle.std.proofs.Common.{◌≡◌, ℕ, ◌+◌, ◌<◌, ◌≤◌, min, Bool, true, cond, filter, option_map, List, [], ◌∷◌, ◌++◌, length, map, sum_by, take, drop, get_or, All, Some, slice_get, refl, sym, ◌∙◌, ap, subst, arith, append_assoc}
 use Rattle.std.proofs.lemmas.List.{length-append, take-map, drop_more, map_more, take_all}
 use Rattle.std.proofs.lemmas.List.Elements.{All-push, All-same}
 use Rattle.std.proofs.lemmas.List.Sums.{sum_by-append}
