@@ -63,7 +63,7 @@ con_called t p words table differ vs x StepTrees.no_steps name decl type c is ca
 
 -- # Procedures
 
-some_part : {X Y : Type 0} (h : X → Option Y) (xs : List X) (k : ℕ) (y : Y) → slice_get (filter_map h xs) k ≡ Some y
+pub some_part : {X Y : Type 0} (h : X → Option Y) (xs : List X) (k : ℕ) (y : Y) → slice_get (filter_map h xs) k ≡ Some y
     → (i : ℕ) × (x : X) × (slice_get xs i ≡ Some x) × (h x ≡ Some y)
 some_part h [] k y e = absurd cc
 some_part {X} {Y} h (x ∷ xs) k y e = by_part h x xs k y (h x) refl e (λ j. some_part h xs j y) where

@@ -127,7 +127,7 @@ at_end [] x rest (suc i) e = absurd cc
 at_end (b ∷ before) x rest zero e = absurd cc
 at_end (b ∷ before) x rest (suc i) e = at_end before x rest i cc
 
-abbrev IsConIn : List TypeEntry → Entry → Type 0
+abbrev pub IsConIn : List TypeEntry → Entry → Type 0
 IsConIn types e = IsConOf types e.what
 
 cons_in_decl : (before rest : List TypeEntry) (k type : ℕ) (at : Span) (form : DeclForm) → length before ≡ type

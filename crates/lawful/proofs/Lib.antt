@@ -15,5 +15,7 @@ mod Entries
 mod Constructors
 mod Roots
 mod RootCalls
+mod RootCalled
+mod Called
 mod SlotLaws
 mod Members

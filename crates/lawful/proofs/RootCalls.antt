@@ -1,27 +1,30 @@
 -- What an access that begins at a root calls, by the program's operations and queries.
-use Rattle.std.proofs.Common.{◌≡◌, ◌+◌, ℕ, suc, Bool, true, false, List, [], ◌∷◌, Option, Some, None, refl, ap, subst, sym, ◌∙◌, arith, inl, inr}
-use Rattle.std.specs.Prelude.{slice_get, option_map, find, position}
+use Rattle.std.proofs.Common.{◌≡◌, ◌+◌, ◌<◌, ℕ, zero, suc, Bool, true, false, not, ◌&&◌, ◌==◌, List, [], ◌∷◌, ◌++◌, map, length, codes, Option, Some, None, refl, ap, subst, sym, ◌∙◌, cond, arith, inl, inr, ◌⊎◌}
+use Rattle.std.specs.Prelude.{slice_get, option_map, option_and_then, find, position, filter_map, nat_lt}
 use Rattle.std.specs.List.{AllByRecursion}
 use Rattle.std.specs.Option.{option_zip}
-use Rattle.std.proofs.lemmas.Bool.{and_parts, eqb-true}
+use Rattle.std.proofs.lemmas.Bool.{and_parts, eqb-true, lt-ltb}
 use Rattle.rp_span.specs.declared.Span.{Span}
-use Rattle.rp_grammar.specs.Trees.{CrdtTree, CrdtForm}
-use Rattle.type_rules.specs.Names.{Name, Names, same_name}
+use Rattle.rp_grammar.specs.Trees.{CrdtTree, CrdtForm, StepTrees}
+use Rattle.type_rules.specs.declared.kind.Kind.{Kind}
+use Rattle.type_rules.specs.Names.{Name, Names, same_name, text_of}
 use Rattle.rp_lang.specs.Typing.{is_get}
-use Rattle.type_rules.specs.Kinds.{bool_kind}
-use Rattle.type_rules.specs.Paths.{Member, members_of, form_of}
+use Rattle.type_rules.specs.Kinds.{bool_kind, operation_kind}
+use Rattle.type_rules.specs.Paths.{Member, members_of, member_of, form_of}
 use Rattle.type_rules.specs.Faults.{IsOneOf}
 use Rattle.desugaring.specs.Parts.{each}
-use Rattle.desugaring.specs.Objects.{OwnOp, OwnQuery, own_ops, own_queries, KindStep, field, key, PathOp, PathQuery, Own, Root, all_on, all_of, ops_at, queries_at, same_step, same_path}
+use Rattle.desugaring.specs.Appearances.{same_kind}
+use Rattle.desugaring.specs.Objects.{OwnOp, OwnQuery, own_ops, own_queries, KindStep, field, key, PathOp, PathQuery, Own, Root, all_on, all_of, ops_at, queries_at, Reached, same_step, same_path}
 use Rattle.desugaring.specs.Callees.{located}
 use Rattle.desugaring.proofs.Options.{both_is}
 use Rattle.lawful.proofs.Basics.{kind_one}
 use Rattle.lawful.proofs.Forms.{one}
+use Rattle.lawful.proofs.Distinct.{at_place}
 use Rattle.lawful.proofs.Arms.{same_text}
 use Rattle.lawful.proofs.Cons.{first_of_position}
 use Rattle.lawful.proofs.Entries.{all_map}
 use Rattle.lawful.proofs.Places.{all_both, all_of_each}
-use Rattle.lawful.proofs.Roots.{OnPath, Made, on_path, all_changed}
+use Rattle.lawful.proofs.Roots.{Reaches, OnPath, Made, on_path, all_changed}
 
 -- # The first that passes, with its number
 
@@ -108,29 +111,30 @@ abbrev named_in : Names → CrdtForm → Name → Option Member
 named_in n form x = find (λ m. same_name m.name x) (members_of n form)
 
 op_case : (first own : OwnOp) (x : Name) (found : Name → Option Member) (here m : Member) → first ≡ own → same_name own.name x ≡ true
-    → found first.name ≡ Some here → first.args ≡ here.args → found x ≡ Some m → own.args ≡ m.args
-op_case first own x found here m is named at args e =
+    → found first.name ≡ Some here → first.args ≡ here.args → here.result ≡ operation_kind → found x ≡ Some m
+    → (own.args ≡ m.args) × (m.result ≡ operation_kind)
+op_case first own x found here m is named at args result e =
     let name : x ≡ first.name = sym (same_text _ _ named) ∙ ap (λ z. z.name) (sym is) in
     let same : here ≡ m = one (sym at ∙ subst (λ y. found y ≡ Some m) name e) in
-    ap (λ z. z.args) (sym is) ∙ args ∙ ap (λ z. z.args) same
+    (ap (λ z. z.args) (sym is) ∙ args ∙ ap (λ z. z.args) same, ap (λ z. z.result) (sym same) ∙ result)
 
 pub own_op_is : (n : Names) (form : CrdtForm) (own : OwnOp) (x : Name) (m : Member) → IsOneOf own (own_ops n form) → same_name own.name x ≡ true
-    → named_in n form x ≡ Some m → own.args ≡ m.args
-own_op_is n (CrdtForm.set_aw t) own x m (inl is) named e = op_case _ own x (named_in n (CrdtForm.set_aw t)) _ m is named refl refl e
-own_op_is n (CrdtForm.set_aw t) own x m (inr (inl is)) named e = op_case _ own x (named_in n (CrdtForm.set_aw t)) _ m is named refl refl e
+    → named_in n form x ≡ Some m → (own.args ≡ m.args) × (m.result ≡ operation_kind)
+own_op_is n (CrdtForm.set_aw t) own x m (inl is) named e = op_case _ own x (named_in n (CrdtForm.set_aw t)) _ m is named refl refl refl e
+own_op_is n (CrdtForm.set_aw t) own x m (inr (inl is)) named e = op_case _ own x (named_in n (CrdtForm.set_aw t)) _ m is named refl refl refl e
 own_op_is n (CrdtForm.set_aw t) own x m (inr (inr is)) named e = absurd is
-own_op_is n (CrdtForm.set_rw t) own x m (inl is) named e = op_case _ own x (named_in n (CrdtForm.set_rw t)) _ m is named refl refl e
-own_op_is n (CrdtForm.set_rw t) own x m (inr (inl is)) named e = op_case _ own x (named_in n (CrdtForm.set_rw t)) _ m is named refl refl e
+own_op_is n (CrdtForm.set_rw t) own x m (inl is) named e = op_case _ own x (named_in n (CrdtForm.set_rw t)) _ m is named refl refl refl e
+own_op_is n (CrdtForm.set_rw t) own x m (inr (inl is)) named e = op_case _ own x (named_in n (CrdtForm.set_rw t)) _ m is named refl refl refl e
 own_op_is n (CrdtForm.set_rw t) own x m (inr (inr is)) named e = absurd is
-own_op_is n (CrdtForm.reg t) own x m (inl is) named e = op_case _ own x (named_in n (CrdtForm.reg t)) _ m is named refl refl e
+own_op_is n (CrdtForm.reg t) own x m (inl is) named e = op_case _ own x (named_in n (CrdtForm.reg t)) _ m is named refl refl refl e
 own_op_is n (CrdtForm.reg t) own x m (inr is) named e = absurd is
-own_op_is n (CrdtForm.mv_reg t) own x m (inl is) named e = op_case _ own x (named_in n (CrdtForm.mv_reg t)) _ m is named refl refl e
+own_op_is n (CrdtForm.mv_reg t) own x m (inl is) named e = op_case _ own x (named_in n (CrdtForm.mv_reg t)) _ m is named refl refl refl e
 own_op_is n (CrdtForm.mv_reg t) own x m (inr is) named e = absurd is
-own_op_is n CrdtForm.counter own x m (inl is) named e = op_case _ own x (named_in n CrdtForm.counter) _ m is named refl refl e
+own_op_is n CrdtForm.counter own x m (inl is) named e = op_case _ own x (named_in n CrdtForm.counter) _ m is named refl refl refl e
 own_op_is n CrdtForm.counter own x m (inr is) named e = absurd is
-own_op_is n (CrdtForm.map_uw t c) own x m (inl is) named e = op_case _ own x (named_in n (CrdtForm.map_uw t c)) _ m is named refl refl e
+own_op_is n (CrdtForm.map_uw t c) own x m (inl is) named e = op_case _ own x (named_in n (CrdtForm.map_uw t c)) _ m is named refl refl refl e
 own_op_is n (CrdtForm.map_uw t c) own x m (inr is) named e = absurd is
-own_op_is n (CrdtForm.map_dw t c) own x m (inl is) named e = op_case _ own x (named_in n (CrdtForm.map_dw t c)) _ m is named refl refl e
+own_op_is n (CrdtForm.map_dw t c) own x m (inl is) named e = op_case _ own x (named_in n (CrdtForm.map_dw t c)) _ m is named refl refl refl e
 own_op_is n (CrdtForm.map_dw t c) own x m (inr is) named e = absurd is
 own_op_is n (CrdtForm.struct parts) own x m is named e = absurd is
 

@@ -4,28 +4,30 @@ ghost use Rattle.std.specs.Prelude.{◌≡◌, ℕ, Bool, true, false, nat_eq, n
 ghost use Rattle.std.specs.List.{IsDistinct};
 ghost use Rattle.rp_span.specs.declared.Span.{Span};
 ghost use Rattle.rp_value.specs.declared.tables.Ty.{Ty};
-ghost use Rattle.rp_grammar.specs.Trees.{PatternTree, ExprTree, ExprArmTrees, DeclTree};
+ghost use Rattle.rp_grammar.specs.Trees.{Ident, PatternTree, StepTrees, ExprTree, ExprArmTrees, DeclTree};
+ghost use Rattle.rp_lang.specs.Exprs.{Ex};
 ghost use Rattle.rp_lang.specs.Formulas.{Arms};
 ghost use Rattle.rp_lang.specs.Programs.{Prog};
 ghost use Rattle.rp_lang.specs.Types.{bool_ty, datatype_of, fields_of};
 ghost use Rattle.rp_lang.specs.Typing.{Frame, are_cases, arm_cons, is_range, op_args};
 ghost use Rattle.type_rules.specs.declared.kind.Kind.{Kind as TheKind};
-ghost use Rattle.type_rules.specs.Names.{Name, Entry, same_name, type_named, type_number};
+ghost use Rattle.type_rules.specs.Names.{Name, Entry, same_name, text_of, type_named, type_number, entry_named};
 ghost use Rattle.type_rules.specs.Kinds.{bool_kind, named_kind};
+ghost use Rattle.type_rules.specs.Accesses.{of_entry};
 ghost use Rattle.type_rules.specs.Typing.{type_of};
 ghost use Rattle.type_rules.specs.Queries.{names_of};
 ghost use Rattle.type_rules.specs.Sites.{Scope, Want, Site};
 ghost use Rattle.type_rules.specs.Matches.{pattern_name, pattern_vars, pattern_kinds};
 ghost use Rattle.type_rules.specs.ExprSites.{expr_sites, arm_names, arm_sites};
-ghost use Rattle.type_rules.specs.Rules.{is_datatype, is_datatype_kind};
+ghost use Rattle.type_rules.specs.Rules.{is_datatype, is_datatype_kind, is_query};
 ghost use Rattle.type_rules.specs.Faults.{IsLawful};
 ghost use Rattle.desugaring.specs.Tables.{Tables, tables_of, con_table, con_number, arm_number, ty_of};
 ghost use Rattle.desugaring.specs.Values.{Value};
-ghost use Rattle.desugaring.specs.Callees.{Vars, vars_of};
+ghost use Rattle.desugaring.specs.Callees.{Vars, vars_of, Called, of_access};
 ghost use Rattle.desugaring.specs.Meanings.{Means, ArmsMean};
 ghost use Rattle.desugaring.specs.Programs.{IsProgramOf};
 ghost use Rattle.lawful.specs.Kept.{Kept, AllKept};
-ghost use Rattle.lawful.specs.Typed.{Tied, Stands, Good, IsCon};
+ghost use Rattle.lawful.specs.Typed.{Tied, Stands, Good, IsCon, IsCall};
 
 /// What an expression of a lawful place becomes is typed in the program, where the program has the
 /// tables of the text.
@@ -81,4 +83,14 @@ pub fn named_types_are_ranges()
 pub fn names_differ()
     ensures { (tree : List DeclTree) → IsLawful tree
         → IsDistinct (λ x y. same_name y x) (map (λ (e : Entry). e.name) (names_of tree).entries) }
+{}
+
+/// What an access calls takes arguments of the types that the rules ask for and gives what they
+/// say: a constructor, a procedure, what it returned, an operation and a query of the store.
+pub fn calls_are_typed()
+    ensures { (tree : List DeclTree) (p : Prog) → IsProgramOf tree p → (words : ℕ → Bool) (vs : Vars) (x : Ident)
+        (steps : StepTrees) (c : Called Ex)
+        → of_access (tables_of tree) vs x steps (of_entry (names_of tree) x steps (entry_named (names_of tree) (text_of x))) ≡ Some c
+        → ((e : Entry) → entry_named (names_of tree) (text_of x) ≡ Some e → is_query e.what ≡ false)
+        → IsCall (tables_of tree) p words (entry_named (names_of tree) (text_of x)) x steps c }
 {}
