@@ -9,7 +9,6 @@ pub mod Meanings
 pub mod Statements
 pub mod Runs
 pub mod Programs
-pub mod SetTrees
-pub mod Rows
 pub mod Limits
 pub mod Depths
+pub mod rows

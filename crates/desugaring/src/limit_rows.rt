@@ -7,7 +7,7 @@ ghost use Rattle.type_rules.specs.Kinds.{bool_kind, int_kind, maybe_of, plain_ki
 ghost use Rattle.type_rules.specs.declared.kind.Base.TheVariants as base;
 ghost use Rattle.desugaring.specs.Tables.{tables_of};
 ghost use Rattle.desugaring.specs.Programs.{program_of};
-ghost use Rattle.desugaring.specs.Rows.{many_types, declared_kind, two_invariants, names_of_invs, claims, doubled, bool, limit_of};
+ghost use Rattle.desugaring.specs.rows.Rows.{many_types, declared_kind, two_invariants, names_of_invs, claims, doubled, bool, limit_of};
 
 /// Inner datatypes come first, a register and a `some(..)` bring a `Maybe` type, also in a query
 /// that is not used, and a datatype counts from where a `some(..)` of it stands.

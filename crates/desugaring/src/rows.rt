@@ -11,17 +11,17 @@ ghost use Rattle.rp_lang.specs.declared.op.OpKind.TheVariants as kind;
 ghost use Rattle.rp_lang.specs.declared.query.QueryKind.TheVariants as asked;
 ghost use Rattle.type_rules.specs.Kinds.{bool_kind, int_kind, maybe_of};
 ghost use Rattle.desugaring.specs.Tables.{type_table, con_table, op_table, query_table};
-ghost use Rattle.desugaring.specs.Rows.{tables, data_kind, con, op, asks, hits, seen};
-ghost use Rattle.desugaring.specs.Rows.{means, ex, var, number, call, comparison, word, plus, minus, some, none, true_word, for_ids, for_calls, for_invocations, match_d, use_of, at_hits, at_seen, returned, last_get, users_contains, both_ex, u, n, b, o, c, i};
+ghost use Rattle.desugaring.specs.rows.Rows.{tables, data_kind, con, op, asks, hits, seen};
+ghost use Rattle.desugaring.specs.rows.Rows.{means, ex, var, number, call, comparison, word, plus, minus, some, none, true_word, for_ids, for_calls, for_invocations, match_d, use_of, at_hits, at_seen, returned, last_get, users_contains, both_ex, u, n, b, o, c, i};
 ghost use Rattle.desugaring.specs.Values.{term, formula, one_ex};
 ghost use Rattle.rp_lang.specs.Samples as sample;
-ghost use Rattle.desugaring.specs.SetTrees as tree;
+ghost use Rattle.desugaring.specs.rows.SetTrees as tree;
 ghost use Rattle.rp_grammar.specs.Rows.{tautology_tree};
 ghost use Rattle.rp_lang.specs.FirstForm.{over_truth_values};
 ghost use Rattle.type_rules.specs.Faults.{first_fault};
 ghost use Rattle.desugaring.specs.Programs.{program_of};
 ghost use Rattle.desugaring.specs.Limits.{first_limit};
-ghost use Rattle.desugaring.specs.Rows as row;
+ghost use Rattle.desugaring.specs.rows.Rows as row;
 
 /// A procedure over a truth value, and the two programs over sets of ids: lawful trees, and their
 /// programs, which pass no limit.

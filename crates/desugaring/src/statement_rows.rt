@@ -10,7 +10,7 @@ ghost use Rattle.rp_lang.specs.Stmts.{Put, Decide, New, Operate, If, Match, Atom
 ghost use Rattle.type_rules.specs.Kinds.{bool_kind, int_kind, maybe_of};
 ghost use Rattle.desugaring.specs.Values.{one_ex};
 ghost use Rattle.desugaring.specs.Statements.{made, one_st};
-ghost use Rattle.desugaring.specs.Rows.{becomes, id, int, bool, maybe, type_of_ids, var, number, comparison, plus, last_get, users_contains, u, n, b, id_kind, st, body, declared, declared_as, assigned, asserted, atomic, users_add, branch, match_maybe, returns, from, block_of, two};
+ghost use Rattle.desugaring.specs.rows.Rows.{becomes, id, int, bool, maybe, type_of_ids, var, number, comparison, plus, last_get, users_contains, u, n, b, id_kind, st, body, declared, declared_as, assigned, asserted, atomic, users_add, branch, match_maybe, returns, from, block_of, two};
 
 /// A declaration is no statement, and one with a value is the assignment of it. It is `Put` for a
 /// plain term and `Decide` elsewhere, and stands in an atomic block of its own where it reads the

@@ -15,11 +15,11 @@ use rp_value::Ty;
 /// The type of `true` and `false`.
 pub const BOOL: Ty = Ty::Datatype(0);
 
-/// Whether it is an integer of 64 bits.
+/// Whether it is at most 2^63 - 1 in absolute value.
 fn is_word(n: i128) -> bool
     ensures { result ≡ spec.is_word n }
 {
-    -9_223_372_036_854_775_808 <= n && n <= 9_223_372_036_854_775_807
+    -9_223_372_036_854_775_807 <= n && n <= 9_223_372_036_854_775_807
 }
 
 pub fn given(holds: bool, found: Option<Ty>) -> Option<Ty>

@@ -82,7 +82,7 @@ slot_ty frame s = if frame.set s then slice_get frame.slots s else None
 
 -- an integer of 64 bits
 abbrev pub is_word : ℤ → Bool
-is_word n = int_le (negsuc 9223372036854775807) n && int_le n (pos 9223372036854775807)
+is_word n = int_le (negsuc 9223372036854775806) n && int_le n (pos 9223372036854775807)
 
 abbrev pub given : Bool → Option Ty → Option Ty
 given holds found = if holds then found else None

@@ -42,12 +42,12 @@ pub fn assignments()
     ensures no_id_type { is_well_formed (procedure [] (Atom 1 ∷ []) (New here 0 1 ∷ [])) ≡ false }
 {}
 
-/// Integers are those of 64 bits.
+/// Integers are at most 2^63 - 1 in absolute value.
 pub fn integers()
     ensures greatest { is_well_formed (procedure [] (Int ∷ []) (Put here 0 (ex.Int (pos 9223372036854775807)) ∷ [])) ≡ true }
     ensures too_great { is_well_formed (procedure [] (Int ∷ []) (Put here 0 (ex.Int (pos 9223372036854775808)) ∷ [])) ≡ false }
-    ensures least { is_well_formed (procedure [] (Int ∷ []) (Put here 0 (ex.Int (negsuc 9223372036854775807)) ∷ [])) ≡ true }
-    ensures too_small { is_well_formed (procedure [] (Int ∷ []) (Put here 0 (ex.Int (negsuc 9223372036854775808)) ∷ [])) ≡ false }
+    ensures least { is_well_formed (procedure [] (Int ∷ []) (Put here 0 (ex.Int (negsuc 9223372036854775806)) ∷ [])) ≡ true }
+    ensures too_small { is_well_formed (procedure [] (Int ∷ []) (Put here 0 (ex.Int (negsuc 9223372036854775807)) ∷ [])) ≡ false }
     ensures plus { is_well_formed (procedure [] (Int ∷ []) (Put here 0 (Plus (ex.Int (pos 1)) (pos 9223372036854775807)) ∷ [])) ≡ true }
     ensures plus_too_great { is_well_formed (procedure [] (Int ∷ []) (Put here 0 (Plus (ex.Int (pos 1)) (pos 9223372036854775808)) ∷ [])) ≡ false }
 {}

@@ -1,0 +1,3 @@
+-- Samples for worked rows.
+pub mod Rows
+pub mod SetTrees

@@ -1,0 +1,10 @@
+//! What a lawful text's tree becomes is well formed: facts of texts, and the types of what its
+//! expressions become. What the definitions say stands in `specs/`.
+#![tactic(auto)]
+
+mod laws;
+
+pub use laws::{
+    arms_are_complete, constructors_are_typed, expressions_are_typed, first_entries,
+    named_types_are_ranges, names_differ,
+};
