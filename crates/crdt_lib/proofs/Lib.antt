@@ -13,3 +13,5 @@ pub mod SameLemmas
 pub mod TypeLemmas
 pub mod AskedLemmas
 pub mod GotLemmas
+pub mod BelowLonger
+pub mod QueryLonger

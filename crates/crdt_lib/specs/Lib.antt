@@ -4,6 +4,7 @@ pub mod Calls
 pub mod Counting
 pub mod Doing
 pub mod Histories
+pub mod Longer
 pub mod Meaning
 pub mod Members
 pub mod Newest

@@ -176,7 +176,7 @@ check-never p s sees g v =
     let seen = sees-ok s sees (λ c. false) g.valid.formed.history f.all_committed f.all_closed in
     let bad = false-found (at_snapshot p s (calls_of s.calls sees)) 0 p.invs k.1.0 k.1.1 in
     let snapshot = snapshot-closed s.calls s.txs (calls_of s.calls sees) (snapshot-sees s sees g.valid.formed.history seen) in
-    true≢false (sym (g.holds (calls_of s.calls sees) bad.0 bad.1 snapshot bad.2) ∙ bad.3)
+    true≢false (sym (g.holds (calls_of s.calls sees) snapshot bad.0 bad.1 bad.2) ∙ bad.3)
 
 never : (p : Prog) (s : State) (label : Label) → IsGood p s → Violates (step p s label) → ⊥
 never p s (Invoke proc args) g v = invoke-never p s proc args (violated (refusal p s (Invoke proc args)) (effect p s (Invoke proc args)) v).1

@@ -9,10 +9,13 @@ use Rattle.event_machine.specs.Runs.{Leads, Violates}
 use Rattle.event_machine.specs.WellFormed.{At, commits_of}
 use Rattle.event_machine.specs.Growth.{IsValid, Grows}
 
+-- every invariant is true where these calls are visible
+abbrev pub HoldsAt : Prog → State → (ℕ → Bool) → Type 0
+HoldsAt p s visible = (n : ℕ) (inv : Inv) → At p.invs n inv → truth (at_snapshot p s visible) [] inv.body ≡ true
+
 -- every invariant is true at every consistent snapshot
 abbrev pub HoldsAll : Prog → State → Type 0
-HoldsAll p s =
-    (v : ℕ → Bool) (n : ℕ) (inv : Inv) → IsSnapshot s.calls (commits_of s.txs) v → At p.invs n inv → truth (at_snapshot p s v) [] inv.body ≡ true
+HoldsAll p s = (visible : ℕ → Bool) → IsSnapshot s.calls (commits_of s.txs) visible → HoldsAt p s visible
 
 abbrev pub IsRunning : State → ℕ → Type 0
 IsRunning s i = (inv : Invocation) × At s.invocations i inv × (inv.standing ≡ Running)
