@@ -12,3 +12,5 @@ pub mod PickedLemmas
 pub mod SameLemmas
 pub mod AskedLemmas
 pub mod GotLemmas
+pub mod BelowLonger
+pub mod QueryLonger

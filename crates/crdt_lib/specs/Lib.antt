@@ -4,6 +4,7 @@ pub mod Counting
 pub mod Doing
 pub mod Fitting
 pub mod Histories
+pub mod Longer
 pub mod Meaning
 pub mod Parts
 pub mod Queries

@@ -4,21 +4,25 @@ use Rattle.std.specs.declared.option.Option.{Option}
 use Rattle.std.specs.declared.option.Option.TheVariants.{None, Some}
 use Rattle.rp_value.specs.Values.{Val}
 use Rattle.rp_lang.specs.Programs.{Proc, Prog}
+use Rattle.rp_lang.specs.WellFormed.{is_well_formed}
 use Rattle.crdt_lib.specs.Calls.{Call}
 use Rattle.crdt_lib.specs.Truths.{list_of, values}
 use Rattle.event_machine.specs.Machine.{Standing, Running, Failed, Invocation, Tx, State, Label, Invoke, Begin, Op, Local, New, Commit, Return, Fail, Check, named, own_calls, reading_set, at_invocation, stands_in, is_generated, with_invocation, with_slot, started, begun, operated, committed, step}
 use Rattle.event_machine.specs.Runs.{Leads}
 use Rattle.event_machine.specs.WellFormed.{At, In, Committed, opened_by, Inside, InSlots, ProcsFit, IsWellFormed}
-use Rattle.event_machine.specs.Growth.{IsPrivate, StaysTx, Grows}
+use Rattle.event_machine.specs.TypedStates.{IsTyped}
+use Rattle.event_machine.specs.Growth.{IsPrivate, IsValid, StaysTx, Grows}
 use Rattle.event_machine.proofs.PlaceLemmas.{at-push, at-keep, at-one, at-set, at-set_other, at-set_same, same-or, in-own, or-cases, any-found}
 use Rattle.event_machine.proofs.CausalLemmas.{done_by}
 use Rattle.event_machine.proofs.ViewLemmas.{closed-snapshot, marker_call}
 use Rattle.event_machine.proofs.ReadLemmas.{From, list-from, any-left}
 use Rattle.event_machine.proofs.SlotLemmas.{slots-set, slots-started}
 use Rattle.event_machine.proofs.MoveLemmas.{Does, step-moves}
+use Rattle.event_machine.proofs.ProgramFits.{procs-fit}
+use Rattle.event_machine.proofs.TypedKept.{step-typed}
 use Rattle.event_machine.proofs.KeptLemmas.{own_call, stands-id, result-from, does-formed}
 
-pub grows-itself : (p : Prog) (s : State) (i : ℕ) → IsWellFormed p s → Grows p s s i
+pub grows-itself : (p : Prog) (s : State) (i : ℕ) → IsValid p s → Grows p s s i
 grows-itself p s i h = record {
   before = h;
   after = h;
@@ -53,7 +57,7 @@ grows-further p a b c i g h = record {
 }
 
 -- the common part of the labels that change one other invocation
-grow-set : (p : Prog) (s n : State) (i j : ℕ) (old upd : Invocation) → IsWellFormed p s → IsWellFormed p n → j ≢ i → At s.invocations j old → old.standing ≡ Running → old.proc ≡ upd.proc → old.args ≡ upd.args → s.universe ≡ n.universe
+grow-set : (p : Prog) (s n : State) (i j : ℕ) (old upd : Invocation) → IsValid p s → IsValid p n → j ≢ i → At s.invocations j old → old.standing ≡ Running → old.proc ≡ upd.proc → old.args ≡ upd.args → s.universe ≡ n.universe
     → n.invocations ≡ slice_set s.invocations j upd → ((c : ℕ) (call : Call) → At s.calls c call → At n.calls c call)
     → ((t : ℕ) (tx : Tx) → At s.txs t tx → (tx' : Tx) × At n.txs t tx' × StaysTx tx tx')
     → ((x : Val) → is_generated s x ≡ true → is_generated n x ≡ true)
@@ -137,12 +141,12 @@ stands-running x standing running m = true≢false (sym m ∙ ap (stands_in x) r
 -- # The labels of another invocation
 
 -- one of j alone, which keeps the calls and transactions
-put-grows : (p : Prog) (s : State) (i j : ℕ) (inv upd : Invocation) → IsWellFormed p s → IsWellFormed p (with_invocation s j upd) → j ≢ i → At s.invocations j inv → inv.standing ≡ Running → inv.proc ≡ upd.proc → inv.args ≡ upd.args
+put-grows : (p : Prog) (s : State) (i j : ℕ) (inv upd : Invocation) → IsValid p s → IsValid p (with_invocation s j upd) → j ≢ i → At s.invocations j inv → inv.standing ≡ Running → inv.proc ≡ upd.proc → inv.args ≡ upd.args
     → ((x : Val) → IsPrivate s i x → InSlots x upd.slots → ⊥) → ((x : Val) → IsPrivate s i x → stands_in x upd.standing ≡ true → ⊥) → Grows p s (with_invocation s j upd) i
 put-grows p s i j inv upd h h' other at running proc args slots results =
     grow-set p s (with_invocation s j upd) i j inv upd h h' other at running proc args refl refl (λ c call a. a) (same-txs s) (λ x g. g) (λ c call a. inl a) (λ c x call q a st. a) slots results
 
-invoke-grows : (p : Prog) (s : State) (proc : ℕ) (args : List Val) (i : ℕ) (q : Proc) → IsWellFormed p s → IsWellFormed p (record s { invocations = s.invocations ++ started q proc args ∷ [] })
+invoke-grows : (p : Prog) (s : State) (proc : ℕ) (args : List Val) (i : ℕ) (q : Proc) → IsValid p s → IsValid p (record s { invocations = s.invocations ++ started q proc args ∷ [] })
     → ((x : Val) → IsPrivate s i x → Inside x args → ⊥) → Grows p s (record s { invocations = s.invocations ++ started q proc args ∷ [] }) i
 invoke-grows p s proc args i q h h' none = record {
   before = h;
@@ -169,17 +173,17 @@ invoke-grows p s proc args i q h h' none = record {
     it : Invocation
     it = started q proc args
 
-does-grows : (p : Prog) → ProcsFit p → (s : State) (label : Label) (new : State) (i : ℕ) → IsWellFormed p s → Does p s label new → named label ≢ Some i → Grows p s new i
-does-grows p procs s (Invoke proc args) new i h m other =
-    let h' = does-formed p procs s (Invoke proc args) new h m in
-    subst (λ n. Grows p s n i) (sym m.4) (invoke-grows p s proc args i m.0 h (subst (IsWellFormed p) m.4 h')
-    (λ x q st. let k = any-found (λ (inv : Invocation). stands_in x inv.standing) s.invocations ((m.3 x st).1 (h.known.ids x q.generated)) in q.results k.0 k.1 k.2 k.3))
-does-grows p procs s (Begin j stamp sees) new i h m other =
-    let h' = does-formed p procs s (Begin j stamp sees) new h m in
+does-grows : (p : Prog) → ProcsFit p → (s : State) (label : Label) (new : State) (i : ℕ) → IsValid p s → IsTyped p new → Does p s label new → named label ≢ Some i → Grows p s new i
+does-grows p procs s (Invoke proc args) new i h t m other =
+    let h' : IsValid p new = record { formed = does-formed p procs s (Invoke proc args) new h.formed m; typed = t } in
+    subst (λ n. Grows p s n i) (sym m.4) (invoke-grows p s proc args i m.0 h (subst (IsValid p) m.4 h')
+    (λ x q st. let k = any-found (λ (inv : Invocation). stands_in x inv.standing) s.invocations ((m.3 x st).1 (h.formed.known.ids x q.generated)) in q.results k.0 k.1 k.2 k.3))
+does-grows p procs s (Begin j stamp sees) new i h t m other =
+    let h' : IsValid p new = record { formed = does-formed p procs s (Begin j stamp sees) new h.formed m; typed = t } in
     let inv : Invocation = m.0 in
     let n : j ≢ i = λ e. other (ap (λ k. Some k) e) in
     let mark : Call = marker_call s j stamp sees in
-    subst (λ n. Grows p s n i) (sym m.6) (grow-set p s (begun s j stamp sees inv m.1) i j inv _ h (subst (IsWellFormed p) m.6 h') n m.2.is m.2.running refl refl refl refl
+    subst (λ n. Grows p s n i) (sym m.6) (grow-set p s (begun s j stamp sees inv m.1) i j inv _ h (subst (IsValid p) m.6 h') n m.2.is m.2.running refl refl refl refl
     (λ c call a. at-keep s.calls mark c call a)
     (λ t tx a. (tx, at-keep s.txs _ t tx a, (refl, λ e. e)))
     (λ x g. g)
@@ -187,47 +191,47 @@ does-grows p procs s (Begin j stamp sees) new i h m other =
     (λ c x call q a st. elim (at-push s.calls mark c call a) [ inl e ↦ e | inr e ↦ absurd (true≢false (sym (subst (λ (v : Call). Inside x v.args) e.1 st))) ])
     (λ x q st. n (q.slots j inv m.2.is st))
     (λ x q st. stands-running x inv.standing m.2.running st))
-does-grows p procs s (Op j stamp) new i h m other =
-    let h' = does-formed p procs s (Op j stamp) new h m in
+does-grows p procs s (Op j stamp) new i h t m other =
+    let h' : IsValid p new = record { formed = does-formed p procs s (Op j stamp) new h.formed m; typed = t } in
     let inv : Invocation = m.0 in
     let n : j ≢ i = λ e. other (ap (λ k. Some k) e) in
     let added : Call = own_call s j stamp inv m.4 m.1 (list_of (values (at_invocation p s inv) [] m.2)) in
-    subst (λ n. Grows p s n i) (sym m.8) (grow-set p s (operated s j stamp inv m.4 m.1 (list_of (values (at_invocation p s inv) [] m.2)) m.3) i j inv (record inv { left = m.3 }) h (subst (IsWellFormed p) m.8 h') n m.5.is m.5.running refl refl refl refl
+    subst (λ n. Grows p s n i) (sym m.8) (grow-set p s (operated s j stamp inv m.4 m.1 (list_of (values (at_invocation p s inv) [] m.2)) m.3) i j inv (record inv { left = m.3 }) h (subst (IsValid p) m.8 h') n m.5.is m.5.running refl refl refl refl
     (λ c call a. at-keep s.calls added c call a)
     (same-txs s)
     (λ x g. g)
     (λ c call a. elim (at-push s.calls added c call a) [ inl e ↦ inl e | inr e ↦ inr (ap (λ (v : Call). v.inv) e.1) ])
     (λ c x call q a st. elim (at-push s.calls added c call a) [
       | inl e ↦ e
-      | inr e ↦ absurd (hidden p s i j x inv h n m.5.is m.5.running q (list-from (at_invocation p s inv) x m.2 (subst (λ (v : Call). Inside x v.args) e.1 st)))
+      | inr e ↦ absurd (hidden p s i j x inv h.formed n m.5.is m.5.running q (list-from (at_invocation p s inv) x m.2 (subst (λ (v : Call). Inside x v.args) e.1 st)))
     ])
     (λ x q st. n (q.slots j inv m.5.is st))
     (λ x q st. stands-running x inv.standing m.5.running st))
-does-grows p procs s (Local j) new i h m other =
-    let h' = does-formed p procs s (Local j) new h m in
+does-grows p procs s (Local j) new i h t m other =
+    let h' : IsValid p new = record { formed = does-formed p procs s (Local j) new h.formed m; typed = t } in
     let n : j ≢ i = λ e. other (ap (λ k. Some k) e) in
-    subst (λ n. Grows p s n i) (sym m.4) (put-grows p s i j m.0 m.1 h (subst (IsWellFormed p) m.4 h') n m.2.is m.2.running (sym m.3.proc) (sym m.3.args)
-    (λ x q st. elim (m.3.slots x st) [ inl old ↦ n (q.slots j m.0 m.2.is old) | inr from ↦ hidden p s i j x m.0 h n m.2.is m.2.running q from ])
+    subst (λ n. Grows p s n i) (sym m.4) (put-grows p s i j m.0 m.1 h (subst (IsValid p) m.4 h') n m.2.is m.2.running (sym m.3.proc) (sym m.3.args)
+    (λ x q st. elim (m.3.slots x st) [ inl old ↦ n (q.slots j m.0 m.2.is old) | inr from ↦ hidden p s i j x m.0 h.formed n m.2.is m.2.running q from ])
     (λ x q st. stands-running x m.1.standing (m.3.standing ∙ m.2.running) st))
-does-grows p procs s (New j id) new i h m other =
-    let h' = does-formed p procs s (New j id) new h m in
+does-grows p procs s (New j id) new i h t m other =
+    let h' : IsValid p new = record { formed = does-formed p procs s (New j id) new h.formed m; typed = t } in
     let inv : Invocation = m.0 in
     let n : j ≢ i = λ e. other (ap (λ k. Some k) e) in
     let upd : Invocation = record (with_slot inv m.1 id) { left = m.3 } in
     let next : State = record (with_invocation s j upd) { generated = s.generated ++ id ∷ [] } in
-    subst (λ n. Grows p s n i) (sym m.8) (grow-set p s next i j inv upd h (subst (IsWellFormed p) m.8 h') n m.4.is m.4.running refl refl refl refl
+    subst (λ n. Grows p s n i) (sym m.8) (grow-set p s next i j inv upd h (subst (IsValid p) m.8 h') n m.4.is m.4.running refl refl refl refl
     (λ c call a. a) (same-txs s) (λ x g. any-left x s.generated (id ∷ []) g) (λ c call a. inl a) (λ c x call q a st. a)
     (λ x q st. elim (slots-set x inv.slots m.1 id st) [
       | inl old ↦ n (q.slots j inv m.4.is old)
       | inr mine ↦ true≢false (sym q.generated ∙ (ap (is_generated s) (stands-id p m.2 id x m.6 mine) ∙ m.5))
     ])
     (λ x q st. stands-running x inv.standing m.4.running st))
-does-grows p procs s (Commit j) new i h m other =
-    let h' = does-formed p procs s (Commit j) new h m in
+does-grows p procs s (Commit j) new i h t m other =
+    let h' : IsValid p new = record { formed = does-formed p procs s (Commit j) new h.formed m; typed = t } in
     let inv : Invocation = m.0 in
     let n : j ≢ i = λ e. other (ap (λ k. Some k) e) in
-    let its = h.linked.still_open j m.3 inv m.4.is m.7 in
-    subst (λ n. Grows p s n i) (sym m.8) (grow-set p s (committed s j inv m.3 m.2) i j inv (record inv { view = reading_set s.calls inv; tx = None; left = m.2 }) h (subst (IsWellFormed p) m.8 h') n m.4.is m.4.running refl refl refl refl
+    let its = h.formed.linked.still_open j m.3 inv m.4.is m.7 in
+    subst (λ n. Grows p s n i) (sym m.8) (grow-set p s (committed s j inv m.3 m.2) i j inv (record inv { view = reading_set s.calls inv; tx = None; left = m.2 }) h (subst (IsValid p) m.8 h') n m.4.is m.4.running refl refl refl refl
     (λ c call a. a)
     (λ t tx a. elim (same-or t m.3) [
       | inl e ↦ (
@@ -240,24 +244,24 @@ does-grows p procs s (Commit j) new i h m other =
     (λ x g. g) (λ c call a. inl a) (λ c x call q a st. a)
     (λ x q st. n (q.slots j inv m.4.is st))
     (λ x q st. stands-running x inv.standing m.4.running st))
-does-grows p procs s (Return j) new i h m other =
-    let h' = does-formed p procs s (Return j) new h m in
+does-grows p procs s (Return j) new i h t m other =
+    let h' : IsValid p new = record { formed = does-formed p procs s (Return j) new h.formed m; typed = t } in
     let inv : Invocation = m.0 in
     let n : j ≢ i = λ e. other (ap (λ k. Some k) e) in
-    subst (λ n. Grows p s n i) (sym m.4) (put-grows p s i j inv _ h (subst (IsWellFormed p) m.4 h') n m.2.is m.2.running refl refl
+    subst (λ n. Grows p s n i) (sym m.4) (put-grows p s i j inv _ h (subst (IsValid p) m.4 h') n m.2.is m.2.running refl refl
     (λ x q st. n (q.slots j inv m.2.is st))
-    (λ x q st. hidden p s i j x inv h n m.2.is m.2.running q (result-from p s inv m.1 x st)))
-does-grows p procs s (Fail j) new i h m other =
-    let h' = does-formed p procs s (Fail j) new h m in
+    (λ x q st. hidden p s i j x inv h.formed n m.2.is m.2.running q (result-from p s inv m.1 x st)))
+does-grows p procs s (Fail j) new i h t m other =
+    let h' : IsValid p new = record { formed = does-formed p procs s (Fail j) new h.formed m; typed = t } in
     let inv : Invocation = m.0 in
     let n : j ≢ i = λ e. other (ap (λ k. Some k) e) in
-    subst (λ n. Grows p s n i) (sym m.2) (put-grows p s i j inv (record inv { standing = Failed }) h (subst (IsWellFormed p) m.2 h') n m.1.is m.1.running refl refl
+    subst (λ n. Grows p s n i) (sym m.2) (put-grows p s i j inv (record inv { standing = Failed }) h (subst (IsValid p) m.2 h') n m.1.is m.1.running refl refl
     (λ x q st. n (q.slots j inv m.1.is st))
     (λ x q st. true≢false (sym st)))
-does-grows p procs s (Check sees) new i h m other = absurd m
+does-grows p procs s (Check sees) new i h t m other = absurd m
 
-pub step-grows : (p : Prog) → ProcsFit p → (s : State) (label : Label) (new : State) (i : ℕ) → IsWellFormed p s → Leads s (step p s label) new → named label ≢ Some i → Grows p s new i
-step-grows p procs s label new i h l other = elim (step-moves p s label new h.history l) [
+pub step-grows : (p : Prog) → is_well_formed p ≡ true → (s : State) (label : Label) (new : State) (i : ℕ) → IsValid p s → Leads s (step p s label) new → named label ≢ Some i → Grows p s new i
+step-grows p w s label new i h l other = elim (step-moves p s label new h.formed.history l) [
   | inl same ↦ subst (λ n. Grows p s n i) (sym same) (grows-itself p s i h)
-  | inr does ↦ does-grows p procs s label new i h does other
+  | inr does ↦ does-grows p (procs-fit p w) s label new i h (step-typed p w s label new h.typed l) does other
 ]

@@ -24,3 +24,10 @@ pub mod ProgramFacts
 pub mod AnswerFits
 pub mod TypedSlots
 pub mod TypedKept
+pub mod TruthLonger
+pub mod DataValues
+pub mod SnapshotLemmas
+pub mod QuietLemmas
+pub mod OwnCallLemmas
+pub mod HistoryLaws
+pub mod PrivateLemmas

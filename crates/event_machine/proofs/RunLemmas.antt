@@ -6,15 +6,18 @@ use Rattle.std.specs.declared.option.Option.TheVariants.{None, Some}
 use Rattle.std.proofs.lemmas.Option.{none-some, same_Some}
 use Rattle.rp_value.specs.Values.{Val}
 use Rattle.rp_lang.specs.Programs.{Inv, Proc, Prog}
+use Rattle.rp_lang.specs.WellFormed.{is_well_formed}
 use Rattle.crdt_lib.specs.Truths.{Reading, truth}
 use Rattle.event_machine.specs.Machine.{Invocation, State, empty, Label, Invoke, Begin, Op, Local, New, Commit, Return, Fail, Check, Why, NoInvocation, NotRunning, What, Invariant, Answer, Moved, Violated, unless, is_running, calls_of, at_snapshot, named, started, checked, effect, refusal, unless_refused, step}
 use Rattle.event_machine.specs.Runs.{Leads, Run, Violates, IsSafe}
 use Rattle.event_machine.specs.WellFormed.{At, ProcsFit, IsWellFormed}
-use Rattle.event_machine.specs.Growth.{Grows}
+use Rattle.event_machine.specs.Growth.{IsValid, Grows}
 use Rattle.event_machine.specs.LocalSafety.{HoldsAll, IsRunning, SafeFor, IsLocallySafe, StartsSafe}
 use Rattle.event_machine.proofs.PlaceLemmas.{at-push, at-one, at-set, at-exists, same-or}
 use Rattle.event_machine.proofs.ViewLemmas.{snapshot-closed, snapshot-sees}
 use Rattle.event_machine.proofs.MoveLemmas.{Does, Free, free, unless-none, running-at, sees-ok, step-moves}
+use Rattle.event_machine.proofs.ProgramFits.{procs-fit}
+use Rattle.event_machine.proofs.TypedKept.{empty-typed, step-typed}
 use Rattle.event_machine.proofs.KeptLemmas.{step-formed, empty-formed}
 use Rattle.event_machine.proofs.GrowthLemmas.{grows-itself, grows-further, step-grows}
 
@@ -76,16 +79,16 @@ was-there p s label new i j inv names h l other at = elim (step-moves p s label 
 -- # States of runs
 
 pub record IsGood (p : Prog) (s : State) : Type 0 where
-  pub formed : IsWellFormed p s
+  pub valid : IsValid p s
   pub holds : HoldsAll p s
   pub safe : (i : ℕ) → IsLocallySafe p s i
 
-named-good : (p : Prog) → ProcsFit p → (s : State) (label : Label) (new : State) (i : ℕ) → named label ≡ Some i → IsGood p s → Leads s (step p s label) new → IsGood p new
-named-good p procs s label new i names g l = record {
-  formed = step-formed p procs s label new g.formed l;
-  holds = ((g.safe i 1 run s (grows-itself p s i g.formed) g.holds label names).0 new l).0;
+named-good : (p : Prog) → is_well_formed p ≡ true → (s : State) (label : Label) (new : State) (i : ℕ) → named label ≡ Some i → IsGood p s → Leads s (step p s label) new → IsGood p new
+named-good p w s label new i names g l = record {
+  valid = record { formed = step-formed p (procs-fit p w) s label new g.valid.formed l; typed = step-typed p w s label new g.valid.typed l };
+  holds = ((g.safe i 1 run s (grows-itself p s i g.valid) g.holds label names).0 new l).0;
   safe = λ j n. elim (same-or j i) [
-    | inl e ↦ subst (SafeFor p n new) (sym e) ((g.safe i (suc n) run s (grows-itself p s i g.formed) g.holds label names).0 new l).1
+    | inl e ↦ subst (SafeFor p n new) (sym e) ((g.safe i (suc n) run s (grows-itself p s i g.valid) g.holds label names).0 new l).1
     | inr other ↦ rest j n other
   ];
 }
@@ -95,14 +98,14 @@ named-good p procs s label new i names g l = record {
 
     rest : (j n : ℕ) → j ≢ i → SafeFor p n new j
     rest j n other = safe-running p n new j (λ run.
-        safe-grows p n s new j run.0 (was-there p s label new i j run.0 names g.formed l other run.1)
-        (step-grows p procs s label new j g.formed l (λ e. other (same_Some j i (sym e ∙ names)))) (g.safe j n))
+        safe-grows p n s new j run.0 (was-there p s label new i j run.0 names g.valid.formed l other run.1)
+        (step-grows p w s label new j g.valid l (λ e. other (same_Some j i (sym e ∙ names)))) (g.safe j n))
 
-invoke-good : (p : Prog) → ProcsFit p → StartsSafe p → (s : State) (proc : ℕ) (args : List Val) (new : State) → IsGood p s → Leads s (step p s (Invoke proc args)) new → IsGood p new
-invoke-good p procs shown s proc args new g l = record {
-  formed = step-formed p procs s (Invoke proc args) new g.formed l;
+invoke-good : (p : Prog) → is_well_formed p ≡ true → StartsSafe p → (s : State) (proc : ℕ) (args : List Val) (new : State) → IsGood p s → Leads s (step p s (Invoke proc args)) new → IsGood p new
+invoke-good p w shown s proc args new g l = record {
+  valid = record { formed = step-formed p (procs-fit p w) s (Invoke proc args) new g.valid.formed l; typed = step-typed p w s (Invoke proc args) new g.valid.typed l };
   holds = k.0;
-  safe = λ j n. safe-running p n new j (λ run. elim (step-moves p s (Invoke proc args) new g.formed.history l) [
+  safe = λ j n. safe-running p n new j (λ run. elim (step-moves p s (Invoke proc args) new g.valid.formed.history l) [
     | inl same ↦ old j n run.0 (subst (λ (s : State). At s.invocations j run.0) same run.1)
     | inr m ↦ elim (at-push s.invocations (started m.0 proc args) j run.0 (subst (λ (s : State). At s.invocations j run.0) m.4 run.1)) [
       | inl e ↦ old j n run.0 e
@@ -112,32 +115,32 @@ invoke-good p procs shown s proc args new g l = record {
 }
   where
     k : HoldsAll p new × IsLocallySafe p new (length s.invocations)
-    k = shown.invoke s proc args new g.formed g.holds l
+    k = shown.invoke s proc args new g.valid g.holds l
 
     old : (j n : ℕ) (inv : Invocation) → At s.invocations j inv → SafeFor p n new j
-    old j n inv at = safe-grows p n s new j inv at (step-grows p procs s (Invoke proc args) new j g.formed l (λ e. none-some j e)) (g.safe j n)
+    old j n inv at = safe-grows p n s new j inv at (step-grows p w s (Invoke proc args) new j g.valid l (λ e. none-some j e)) (g.safe j n)
 
 check-same : (p : Prog) (s : State) (sees : List ℕ) (new : State) → IsWellFormed p s → Leads s (step p s (Check sees)) new → new ≡ s
 check-same p s sees new h l = elim (step-moves p s (Check sees) new h.history l) [ inl same ↦ same | inr does ↦ absurd does ]
 
-step-good : (p : Prog) → ProcsFit p → StartsSafe p → (s : State) (label : Label) (new : State) → IsGood p s → Leads s (step p s label) new → IsGood p new
-step-good p procs shown s (Invoke proc args) new g l = invoke-good p procs shown s proc args new g l
-step-good p procs shown s (Begin i stamp sees) new g l = named-good p procs s (Begin i stamp sees) new i refl g l
-step-good p procs shown s (Op i stamp) new g l = named-good p procs s (Op i stamp) new i refl g l
-step-good p procs shown s (Local i) new g l = named-good p procs s (Local i) new i refl g l
-step-good p procs shown s (New i id) new g l = named-good p procs s (New i id) new i refl g l
-step-good p procs shown s (Commit i) new g l = named-good p procs s (Commit i) new i refl g l
-step-good p procs shown s (Return i) new g l = named-good p procs s (Return i) new i refl g l
-step-good p procs shown s (Fail i) new g l = named-good p procs s (Fail i) new i refl g l
-step-good p procs shown s (Check sees) new g l = subst (IsGood p) (sym (check-same p s sees new g.formed l)) g
+step-good : (p : Prog) → is_well_formed p ≡ true → StartsSafe p → (s : State) (label : Label) (new : State) → IsGood p s → Leads s (step p s label) new → IsGood p new
+step-good p w shown s (Invoke proc args) new g l = invoke-good p w shown s proc args new g l
+step-good p w shown s (Begin i stamp sees) new g l = named-good p w s (Begin i stamp sees) new i refl g l
+step-good p w shown s (Op i stamp) new g l = named-good p w s (Op i stamp) new i refl g l
+step-good p w shown s (Local i) new g l = named-good p w s (Local i) new i refl g l
+step-good p w shown s (New i id) new g l = named-good p w s (New i id) new i refl g l
+step-good p w shown s (Commit i) new g l = named-good p w s (Commit i) new i refl g l
+step-good p w shown s (Return i) new g l = named-good p w s (Return i) new i refl g l
+step-good p w shown s (Fail i) new g l = named-good p w s (Fail i) new i refl g l
+step-good p w shown s (Check sees) new g l = subst (IsGood p) (sym (check-same p s sees new g.valid.formed l)) g
 
-run-good : (p : Prog) → ProcsFit p → StartsSafe p → (s : State) (labels : List Label) (new : State) → IsGood p s → Run p s labels new → IsGood p new
-run-good p procs shown s [] new g r = subst (IsGood p) (sym r) g
-run-good p procs shown s (label ∷ labels) new g r = run-good p procs shown r.0 labels new (step-good p procs shown s label r.0 g r.1) r.2
+run-good : (p : Prog) → is_well_formed p ≡ true → StartsSafe p → (s : State) (labels : List Label) (new : State) → IsGood p s → Run p s labels new → IsGood p new
+run-good p w shown s [] new g r = subst (IsGood p) (sym r) g
+run-good p w shown s (label ∷ labels) new g r = run-good p w shown r.0 labels new (step-good p w shown s label r.0 g r.1) r.2
 
 empty-good : (p : Prog) → StartsSafe p → (universe : ℕ) → 1 ≤ universe → IsGood p (empty universe)
 empty-good p shown universe one = record {
-  formed = empty-formed p universe one;
+  valid = record { formed = empty-formed p universe one; typed = empty-typed p universe };
   holds = shown.begin universe one;
   safe = λ i n. safe-running p n (empty universe) i (λ run. absurd (none-some run.0 run.1));
 }
@@ -157,7 +160,7 @@ false-found r n (inv ∷ others) what e = go (λ e. false-found r (n + 1) others
 named-never : (p : Prog) (s : State) (label : Label) (i : ℕ) → named label ≡ Some i → IsGood p s → Violates (step p s label) → ⊥
 named-never p s label i names g v =
     let run = running-here p s label i names (violated (refusal p s label) (effect p s label) v).0 in
-    (g.safe i 1 run s (grows-itself p s i g.formed) g.holds label names).1 v
+    (g.safe i 1 run s (grows-itself p s i g.valid) g.holds label names).1 v
 
 invoke-never : (p : Prog) (s : State) (proc : ℕ) (args : List Val) → Violates (effect p s (Invoke proc args)) → ⊥
 invoke-never p s proc args v = go (slice_get p.procs proc) v
@@ -170,10 +173,10 @@ check-never : (p : Prog) (s : State) (sees : List ℕ) → IsGood p s → Violat
 check-never p s sees g v =
     let k = violated (refusal p s (Check sees)) (effect p s (Check sees)) v in
     let f : Free p s (Check sees) = free p s (Check sees) k.0 in
-    let seen = sees-ok s sees (λ c. false) g.formed.history f.all_committed f.all_closed in
+    let seen = sees-ok s sees (λ c. false) g.valid.formed.history f.all_committed f.all_closed in
     let bad = false-found (at_snapshot p s (calls_of s.calls sees)) 0 p.invs k.1.0 k.1.1 in
-    let snapshot = snapshot-closed s.calls s.txs (calls_of s.calls sees) (snapshot-sees s sees g.formed.history seen) in
-    true≢false (sym (g.holds (calls_of s.calls sees) bad.0 bad.1 snapshot bad.2) ∙ bad.3)
+    let snapshot = snapshot-closed s.calls s.txs (calls_of s.calls sees) (snapshot-sees s sees g.valid.formed.history seen) in
+    true≢false (sym (g.holds (calls_of s.calls sees) snapshot bad.0 bad.1 bad.2) ∙ bad.3)
 
 never : (p : Prog) (s : State) (label : Label) → IsGood p s → Violates (step p s label) → ⊥
 never p s (Invoke proc args) g v = invoke-never p s proc args (violated (refusal p s (Invoke proc args)) (effect p s (Invoke proc args)) v).1
@@ -186,7 +189,7 @@ never p s (Return i) g v = named-never p s (Return i) i refl g v
 never p s (Fail i) g v = named-never p s (Fail i) i refl g v
 never p s (Check sees) g v = check-never p s sees g v
 
-pub safe-starts : (p : Prog) → ProcsFit p → StartsSafe p → IsSafe p
+pub safe-starts : (p : Prog) → is_well_formed p ≡ true → StartsSafe p → IsSafe p
 unfolding IsSafe
-safe-starts p procs shown universe labels s label one run v =
-    never p s label (run-good p procs shown (empty universe) labels s (empty-good p shown universe one) run) v
+safe-starts p w shown universe labels s label one run v =
+    never p s label (run-good p w shown (empty universe) labels s (empty-good p shown universe one) run) v

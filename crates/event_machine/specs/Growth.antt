@@ -5,6 +5,7 @@ use Rattle.rp_lang.specs.Programs.{Prog}
 use Rattle.crdt_lib.specs.Calls.{Call}
 use Rattle.event_machine.specs.Machine.{Running, Invocation, Tx, State, stands_in, is_generated}
 use Rattle.event_machine.specs.WellFormed.{At, Inside, InSlots, IsWellFormed}
+use Rattle.event_machine.specs.TypedStates.{IsTyped}
 
 -- The identifier is private to i: it is generated, and stands in no argument, no result, no slot of another invocation
 -- and no call but those of i's open transaction.
@@ -14,6 +15,11 @@ pub record IsPrivate (s : State) (i : ℕ) (x : Val) : Type 0 where
   pub results : (j : ℕ) (inv : Invocation) → At s.invocations j inv → stands_in x inv.standing ≡ true → ⊥
   pub slots : (j : ℕ) (inv : Invocation) → At s.invocations j inv → InSlots x inv.slots → j ≡ i
   pub calls : (c : ℕ) (call : Call) → At s.calls c call → Inside x call.args → (inv : Invocation) × At s.invocations i inv × (inv.tx ≡ Some call.tx)
+
+-- a state as runs of a well-formed program have it: well-formed, and typed
+pub record IsValid (p : Prog) (s : State) : Type 0 where
+  pub formed : IsWellFormed p s
+  pub typed : IsTyped p s
 
 -- of the same invocation, and committed where it was
 abbrev pub StaysTx : Tx → Tx → Type 0
@@ -26,8 +32,8 @@ pub record StaysInvocation (old new : Invocation) : Type 0 where
   pub ended : old.standing ≢ Running → new.standing ≡ old.standing
 
 pub record Grows (p : Prog) (old new : State) (i : ℕ) : Type 0 where
-  pub before : IsWellFormed p old
-  pub after : IsWellFormed p new
+  pub before : IsValid p old
+  pub after : IsValid p new
   pub universe : old.universe ≡ new.universe
   -- calls, transactions and invocations keep their numbers
   pub calls : (c : ℕ) (call : Call) → At old.calls c call → At new.calls c call

@@ -6,6 +6,9 @@ pub mod WellFormed
 pub mod Growth
 pub mod TypedStates
 pub mod Runs
+pub mod OldCalls
+pub mod OwnCalls
+pub mod Beside
 pub mod LocalSafety
 pub mod Propositions
 pub mod Checks

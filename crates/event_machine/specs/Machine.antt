@@ -65,14 +65,14 @@ plain s = record {
 abbrev pub at_snapshot : Prog → State → (ℕ → Bool) → Reading
 at_snapshot p s visible = record { program = p; parts = plain s; visible = visible; slots = [] }
 
--- a procedure reads its slots and the calls that its invocation sees
+-- a procedure reads slots and calls, and nothing of transactions and invocations
+abbrev pub proc_reading : Prog → ℕ → List Call → List (Option Val) → (ℕ → Bool) → Reading
+proc_reading p universe calls slots visible =
+    record { program = p; parts = record { universe = universe; calls = calls; committed = []; infos = [] }; visible = visible; slots = slots }
+
+-- it reads its own slots and the calls that its invocation sees
 abbrev pub at_invocation : Prog → State → Invocation → Reading
-at_invocation p s inv = record {
-  program = p;
-  parts = record { universe = s.universe; calls = s.calls; committed = []; infos = [] };
-  visible = reading_set s.calls inv;
-  slots = inv.slots;
-}
+at_invocation p s inv = proc_reading p s.universe s.calls inv.slots (reading_set s.calls inv)
 
 -- # What a label names, and what an invocation does next
 
@@ -286,11 +286,14 @@ abbrev pub with_call : State → Call → State
 with_call s call = record s { calls = s.calls ++ call ∷ [] }
 
 -- the arguments are in the first slots, and no other slot is set
+abbrev pub first_slots : Proc → List Val → List (Option Val)
+first_slots q args = map (λ v. Some v) args ++ replicate (length q.slots - length args) None
+
 abbrev pub started : Proc → ℕ → List Val → Invocation
 started q proc args = record {
   proc = proc;
   args = args;
-  slots = map (λ v. Some v) args ++ replicate (length q.slots - length args) None;
+  slots = first_slots q args;
   left = proc_code q;
   view = λ c. false;
   tx = None;

@@ -1,11 +1,13 @@
 //! The machine that runs a program's invocations side by side, its runs, and the goals of a program.
 #![tactic(auto)]
 
+mod histories;
 mod laws;
 mod samples;
 mod states;
 mod worked;
 
+pub use histories::{longer_histories, own_calls, own_privacy, quiet_labels, snapshots};
 pub use laws::{false_by_trying, false_goals_violate, safe_by_goals, safe_by_outcomes};
 pub use samples::{
     asserted_parameter, false_goals, order_of_goals, refusals, rows_of_choices, two_invocations,

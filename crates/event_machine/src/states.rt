@@ -8,7 +8,7 @@ ghost use Rattle.event_machine.specs.Machine.{named, step};
 ghost use Rattle.event_machine.specs.Runs.{Leads, IsSafe};
 ghost use Rattle.event_machine.specs.WellFormed.{At, IsWellFormed, ProcsFit};
 ghost use Rattle.event_machine.specs.TypedStates.{CodeTyped, IsTyped};
-ghost use Rattle.event_machine.specs.Growth.{Grows};
+ghost use Rattle.event_machine.specs.Growth.{IsValid, Grows};
 ghost use Rattle.event_machine.specs.LocalSafety.{SafeFor, StartsSafe};
 
 /// The empty state is well-formed, and every accepted label keeps that.
@@ -20,9 +20,9 @@ pub fn well_formed_states()
 
 /// A label of another invocation, or of none, is a growth. Growth is reflexive and transitive.
 pub fn growth()
-    ensures others { (p : Prog) → ProcsFit p → (s : State) (label : Label) (new : State) (i : ℕ) → IsWellFormed p s
+    ensures others { (p : Prog) → IsTrue (is_well_formed p) → (s : State) (label : Label) (new : State) (i : ℕ) → IsValid p s
         → Leads s (step p s label) new → named label ≢ Some i → Grows p s new i }
-    ensures reflexive { (p : Prog) (s : State) (i : ℕ) → IsWellFormed p s → Grows p s s i }
+    ensures reflexive { (p : Prog) (s : State) (i : ℕ) → IsValid p s → Grows p s s i }
     ensures transitive { (p : Prog) (a b c : State) (i : ℕ) → Grows p a b i → Grows p b c i → Grows p a c i }
 {}
 
@@ -39,7 +39,7 @@ pub fn local_safety()
 
 /// A program whose invocations each start locally safe is safe in every run.
 pub fn safe_by_invocations()
-    ensures { (p : Prog) → ProcsFit p → StartsSafe p → IsSafe p }
+    ensures { (p : Prog) → IsTrue (is_well_formed p) → StartsSafe p → IsSafe p }
 {}
 
 /// The code of a well-formed program's procedures is typed where the parameters are set.

@@ -1,0 +1,12 @@
+pub mod FollowsLonger
+pub mod CameGrows
+pub mod CameSteps
+pub mod MarkHolds
+pub mod TrailFacts
+pub mod PlaceFacts
+pub mod TrailSteps
+pub mod MetGoals
+pub mod NoViolation
+pub mod GoalsSafe
+pub mod Example
+pub mod GoalPlaceLemmas
