@@ -25,7 +25,8 @@ use Rattle.crdt_lib.specs.Counting.{first_below}
 use Rattle.crdt_lib.specs.Doing.{own_argument, is_of, does, on_root, goes_to_field, goes_to_key, deletes, amount}
 use Rattle.crdt_lib.specs.Histories.{meets, call_is, before, some_call}
 use Rattle.crdt_lib.specs.Meaning.{among, is_before_one, one_stays, in_field, loses, at_key, stamp_of, is_older, latest, counter_sum}
-use Rattle.crdt_lib.specs.Queries.{question, at_call, answer_at, field_in, held_in, winner_in, ask, root_type, answer_by, answer_in}
+use Rattle.rp_lang.specs.Paths.{field_in, root_crdt}
+use Rattle.crdt_lib.specs.Queries.{question, at_call, answer_at, held_in, winner_in, ask, answer_by, answer_in}
 use Rattle.crdt_lib.specs.Truths.{or_false, nth_con, answer_val}
 use Rattle.crdt_lib.specs.Longer.{IsLonger, Bounded}
 use Rattle.crdt_lib.proofs.AskedLemmas.{named_call}
@@ -158,8 +159,8 @@ module _ (h h' : List Call) (more : IsLonger h h') where
       go : (o : Option QueryDecl) → answer_by p o h' visible args ≡ answer_by p o h visible args
       go None = refl
       go (Some q) =
-          ap (λ set. ask p.ops h' q.kind (root_type (slice_get p.roots q.root)) q.path 0 set args) (among-same visible in_h (on_root p.ops q.root))
-          ∙ ask-same p.ops q.kind (root_type (slice_get p.roots q.root)) q.path 0 (among h visible (on_root p.ops q.root)) (among-in visible in_h _) args
+          ap (λ set. ask p.ops h' q.kind (root_crdt (slice_get p.roots q.root)) q.path 0 set args) (among-same visible in_h (on_root p.ops q.root))
+          ∙ ask-same p.ops q.kind (root_crdt (slice_get p.roots q.root)) q.path 0 (among h visible (on_root p.ops q.root)) (among-in visible in_h _) args
 
   -- the value of an answer whose call is visible
   pub answer-val-same : (p : Prog) (visible : ℕ → Bool) → Bounded h visible → (q : Option QueryDecl) (a : Answer) → ((c : ℕ) → named_call a ≡ Some c → visible c ≡ true)

@@ -14,7 +14,7 @@ ghost use Rattle.desugaring.specs.Tables.{type_table, con_table, op_table, query
 ghost use Rattle.desugaring.specs.rows.Rows.{tables, data_kind, con, op, asks, hits, seen};
 ghost use Rattle.desugaring.specs.rows.Rows.{means, ex, var, number, call, comparison, word, plus, minus, some, none, true_word, for_ids, for_calls, for_invocations, match_d, use_of, at_hits, at_seen, returned, last_get, users_contains, both_ex, u, n, b, o, c, i};
 ghost use Rattle.desugaring.specs.Values.{term, formula, one_ex};
-ghost use Rattle.rp_lang.specs.Samples as sample;
+ghost use Rattle.rp_lang.specs.rows.Samples as sample;
 ghost use Rattle.desugaring.specs.rows.SetTrees as tree;
 ghost use Rattle.rp_grammar.specs.Rows.{tautology_tree};
 ghost use Rattle.rp_lang.specs.FirstForm.{over_truth_values};

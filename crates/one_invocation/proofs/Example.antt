@@ -21,7 +21,7 @@ use Rattle.one_invocation.specs.Trails.{Way, Operate, Done, HasOperated, HasBegu
 use Rattle.one_invocation.specs.CameAlong.{Start, start_of, Follows}
 use Rattle.event_machine.specs.OldCalls.{old}
 use Rattle.one_invocation.specs.Goals.{goals, Stands, IsMet}
-use Rattle.rp_lang.specs.Samples.{norem}
+use Rattle.rp_lang.specs.rows.Samples.{norem}
 use Rattle.one_invocation.specs.rows.Programs.{only_adds}
 use Rattle.one_invocation.proofs.TrailFacts.{new-committed}
 use Rattle.one_invocation.proofs.TrailSteps.{accepted-effect, commit-code, return-code}

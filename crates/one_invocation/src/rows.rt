@@ -2,7 +2,7 @@
 ghost use Rattle.std.specs.Prelude.{◌≡◌, true, [], ◌∷◌, length, map, All, Some, slice_get};
 ghost use Rattle.rp_lang.specs.Exprs.{Slot, Query};
 ghost use Rattle.rp_lang.specs.Formulas.{Holds};
-ghost use Rattle.rp_lang.specs.Samples.{span, one, refs, removes_users, keeps_users};
+ghost use Rattle.rp_lang.specs.rows.Samples.{span, one, refs, removes_users, keeps_users};
 ghost use Rattle.event_machine.specs.Runs.{IsSafe};
 ghost use Rattle.event_machine.specs.LocalSafety.{StartsSafe};
 ghost use Rattle.event_machine.specs.Samples.{program, branches, never, ten_ifs};

@@ -4,7 +4,7 @@ use Rattle.rp_span.specs.declared.Span.{Span}
 use Rattle.rp_lang.specs.declared.goal.GoalName.{GoalName}
 use Rattle.rp_lang.specs.declared.goal.GoalKind.{GoalKind}
 use Rattle.rp_lang.specs.declared.goal.GoalKind.TheVariants.{Init, Invoke, Assert, Commit, Return}
-use Rattle.rp_lang.specs.Samples.{span}
+use Rattle.rp_lang.specs.rows.Samples.{span}
 use Rattle.event_machine.specs.Worked.{nowhere}
 
 -- of an invariant at the start

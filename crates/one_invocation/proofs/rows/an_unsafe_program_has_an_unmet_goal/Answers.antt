@@ -1,5 +1,5 @@
 use Rattle.std.proofs.Common.{refl, arith, [], ◌∷◌, ◌++◌}
-use Rattle.rp_lang.specs.Samples.{removes_users}
+use Rattle.rp_lang.specs.rows.Samples.{removes_users}
 use Rattle.event_machine.specs.States.{Check, Invariant}
 use Rattle.event_machine.specs.Worked.{both_done}
 use Rattle.event_machine.proofs.OutcomeLemmas.{never_violated}
