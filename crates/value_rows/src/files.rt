@@ -52,19 +52,26 @@ fn read<F: Files>(
     }
 }
 
-/// Appends what the calls give, one after another: `NAME:FROM+ROOM` fetches once, and `NAME<LIMIT` reads all.
-fn ask<F: Files>(
+/// Appends what a call gives: `NAME:FROM+ROOM` fetches once, and `NAME<LIMIT` reads all.
+fn ask<F: Files>(alloc: Global, files: &mut F, call: &str, out: &mut String) -> Result<(), Memory> {
+    match call.split_once('<') {
+        Some((name, limit)) => read(alloc, files, name, limit, out),
+        None => {
+            let (name, place) = call.split_once(':').unwrap_or((call, ""));
+            fetch(alloc, files, name, place, out)
+        }
+    }
+}
+
+/// Appends what the calls give, one after another.
+fn ask_all<F: Files>(
     alloc: Global,
     files: &mut F,
     calls: &str,
     out: &mut String,
 ) -> Result<(), Memory> {
     for call in calls.split(' ') {
-        if let Some((name, place)) = call.split_once(':') {
-            fetch(alloc, files, name, place, out)?;
-        } else if let Some((name, limit)) = call.split_once('<') {
-            read(alloc, files, name, limit, out)?;
-        }
+        ask(alloc, files, call, out)?;
         out.push(';')?;
     }
     Ok(())
@@ -75,9 +82,9 @@ pub(crate) fn answers(alloc: Global, given: &str, out: &mut String) -> Result<()
     let (files, calls_that_fail, calls) = three(given);
     let files = files_of(alloc, files)?;
     if calls_that_fail == "sure" {
-        ask(alloc, &mut SureFiles::new(files), calls, out)
+        ask_all(alloc, &mut SureFiles::new(files), calls, out)
     } else {
         let failing = failing(alloc, calls_that_fail)?;
-        ask(alloc, &mut MemFiles::new(files, failing), calls, out)
+        ask_all(alloc, &mut MemFiles::new(files, failing), calls, out)
     }
 }

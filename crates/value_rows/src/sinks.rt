@@ -1,7 +1,7 @@
 //! Rows on sinks over memory.
 
 use crate::words::{bytes_of, failing, number, show, three};
-use rp_io::{Failed, MemSink, Sink, SureSink, put_lines};
+use rp_io::{MemSink, Sink, SureSink, put_lines};
 use rp_value::Memory;
 use std::alloc::Global;
 
@@ -14,12 +14,7 @@ fn pieces_of(alloc: Global, words: &str) -> Result<Vec<Vec<u8>>, Memory> {
     Ok(pieces)
 }
 
-fn tell(told: Result<(), Failed>, out: &mut String) -> Result<(), Memory> {
-    out.push_str(if told.is_ok() { "ok;" } else { "failed;" })?;
-    Ok(())
-}
-
-/// Appends what the sink answers at each piece, or at all of them as lines.
+/// Appends for each piece, or for all of them as lines, whether the sink took it.
 fn put_all<K: Sink>(
     sink: &mut K,
     pieces: &[Vec<u8>],
@@ -27,32 +22,44 @@ fn put_all<K: Sink>(
     out: &mut String,
 ) -> Result<(), Memory> {
     if are_lines {
-        return tell(put_lines(sink, pieces), out);
-    }
-    for piece in pieces {
-        tell(sink.put(piece), out)?;
+        let is_put = put_lines(sink, pieces).is_ok();
+        write!(out, "{is_put};")?;
+    } else {
+        for piece in pieces {
+            let is_put = sink.put(piece).is_ok();
+            write!(out, "{is_put};")?;
+        }
     }
     Ok(())
 }
 
-/// What is put into a sink that fails only where there is no room, or that takes no memory.
+/// What is put into a sink that fails only where there is no room. Without a room it takes no memory.
 fn put_sure(
-    mut sink: SureSink,
+    alloc: Global,
+    room: Option<usize>,
     pieces: &[Vec<u8>],
     are_lines: bool,
     out: &mut String,
 ) -> Result<(), Memory> {
+    let mut sink = match room {
+        None => SureSink::new(alloc),
+        Some(n) => SureSink::with_room(alloc, n)?,
+    };
     put_all(&mut sink, pieces, are_lines, out)?;
     show(out, sink.bytes())
 }
 
 /// What is put into a sink of which some calls fail.
 fn put_failing(
-    mut sink: MemSink,
+    alloc: Global,
+    room: usize,
+    calls_that_fail: &str,
     pieces: &[Vec<u8>],
     are_lines: bool,
     out: &mut String,
 ) -> Result<(), Memory> {
+    let failing = failing(alloc, calls_that_fail)?;
+    let mut sink = MemSink::with_room(alloc, room, failing)?;
     put_all(&mut sink, pieces, are_lines, out)?;
     show(out, sink.bytes())
 }
@@ -68,17 +75,9 @@ pub(crate) fn answers(
     let (room, calls_that_fail, words) = three(given);
     let room = number(room) as usize;
     let pieces = pieces_of(alloc, words)?;
-    if calls_that_fail == "new" {
-        put_sure(SureSink::new(alloc), &pieces, are_lines, out)
-    } else if calls_that_fail == "sure" {
-        put_sure(SureSink::with_room(alloc, room)?, &pieces, are_lines, out)
-    } else {
-        let failing = failing(alloc, calls_that_fail)?;
-        put_failing(
-            MemSink::with_room(alloc, room, failing)?,
-            &pieces,
-            are_lines,
-            out,
-        )
+    match calls_that_fail {
+        "new" => put_sure(alloc, None, &pieces, are_lines, out),
+        "sure" => put_sure(alloc, Some(room), &pieces, are_lines, out),
+        _ => put_failing(alloc, room, calls_that_fail, &pieces, are_lines, out),
     }
 }

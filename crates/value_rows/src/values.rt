@@ -5,24 +5,6 @@ use rp_span::{Text, line_of};
 use rp_value::{Boxed, List, Memory, Value, copy_bytes, copy_list, copy_values};
 use std::alloc::Global;
 
-/// Appends the line and the column of a byte.
-fn tell_place(text: &Text, at: u32, out: &mut String) -> Result<(), Memory> {
-    if at as usize > text.len() {
-        return Ok(());
-    }
-    let pos = line_of(text, at);
-    let rest = if text.is_empty() { "nothing" } else { "text" };
-    write!(
-        out,
-        "{}:{} at {} of {} {rest}",
-        pos.line,
-        pos.col,
-        pos.byte,
-        text.bytes().len()
-    )?;
-    Ok(())
-}
-
 /// `TEXT BYTE`: the line and the column of the byte, and how long the text is.
 pub(crate) fn place(alloc: Global, given: &str, out: &mut String) -> Result<(), Memory> {
     let (word, at) = given.split_once(' ').unwrap_or((given, ""));
@@ -30,7 +12,16 @@ pub(crate) fn place(alloc: Global, given: &str, out: &mut String) -> Result<(), 
     if bytes.len() > 4_194_304 {
         return Ok(());
     }
-    tell_place(&Text::new(bytes), number(at), out)
+    let text = Text::new(bytes);
+    let at = number(at).min(text.len() as u32);
+    let pos = line_of(&text, at);
+    let (len, is_empty) = (text.bytes().len(), text.is_empty());
+    write!(
+        out,
+        "{}:{} at {} of {len} {is_empty}",
+        pos.line, pos.col, pos.byte
+    )?;
+    Ok(())
 }
 
 /// The value that a word writes: `"TEXT`, `TYPE#NUMBER` for an atom, `CONSTRUCTOR(` over all values that stand before it,
@@ -70,12 +61,7 @@ fn values_of(alloc: Global, words: &str) -> Result<List<Value>, Memory> {
     Ok(values)
 }
 
-fn tell(is: bool, out: &mut String) -> Result<(), Memory> {
-    out.push_str(if is { "yes" } else { "no" })?;
-    Ok(())
-}
-
-/// Whether the values are the same, where a copy of the one says so too.
+/// Whether the values are the same. Where a copy of the one isn't the one, the answer is turned.
 fn are_same(alloc: Global, one: &Value, other: &Value) -> Result<bool, Memory> {
     let copy = one.copy(alloc)?;
     let is_copied = copy.same(one) && copy.same(other) == one.same(other);
@@ -87,10 +73,11 @@ pub(crate) fn same(alloc: Global, given: &str, out: &mut String) -> Result<(), M
     let (one, other) = given.split_once(" & ").unwrap_or((given, ""));
     let ones = values_of(alloc, one)?;
     let others = values_of(alloc, other)?;
-    match (ones.as_slice().last(), others.as_slice().last()) {
-        (Some(one), Some(other)) => tell(are_same(alloc, one, other)?, out),
-        _ => Ok(()),
+    if let (Some(one), Some(other)) = (ones.as_slice().last(), others.as_slice().last()) {
+        let are_same = are_same(alloc, one, other)?;
+        write!(out, "{are_same}")?;
     }
+    Ok(())
 }
 
 /// The list of the numbers of a line.
@@ -104,14 +91,6 @@ fn numbers_of(alloc: Global, words: &str) -> Result<List<u32>, Memory> {
     Ok(list)
 }
 
-/// Appends what is taken from the end of a list, one after another.
-fn take_all(list: &mut List<u32>, out: &mut String) -> Result<(), Memory> {
-    for _ in 0..=list.len() {
-        write!(out, " {:?}", list.pop())?;
-    }
-    Ok(())
-}
-
 /// `NUMBERS`: a list of them: how many, the first, the last and the greatest, then what is taken from its end.
 pub(crate) fn list(alloc: Global, given: &str, out: &mut String) -> Result<(), Memory> {
     let mut list = numbers_of(alloc, given)?;
@@ -120,7 +99,10 @@ pub(crate) fn list(alloc: Global, given: &str, out: &mut String) -> Result<(), M
         let most = list.iter().copied().max().unwrap_or(0);
         write!(out, "{count} {first} {last} {most}")?;
     }
-    take_all(&mut list, out)
+    for _ in 0..=list.len() {
+        write!(out, " {:?}", list.pop())?;
+    }
+    Ok(())
 }
 
 /// `WORD WORD`: whether lists of their bytes are equal.
@@ -131,7 +113,8 @@ pub(crate) fn bytes(alloc: Global, given: &str, out: &mut String) -> Result<(), 
         return Ok(());
     }
     let is_equal = copy_list(alloc, one.as_bytes())? == List::from_vec(bytes);
-    tell(is_equal, out)
+    write!(out, "{is_equal}")?;
+    Ok(())
 }
 
 /// `NUMBER NUMBER`: what a box of the first shows twice, whether it equals one of the second, and what it gives back.
