@@ -4,7 +4,7 @@ use Rattle.std.specs.Prelude.{slice_get}
 use Rattle.rp_grammar.specs.Trees.{Ident, StepTrees, DeclTree}
 use Rattle.rp_lang.specs.Exprs.{Ex}
 use Rattle.rp_lang.specs.Programs.{Prog}
-use Rattle.type_rules.specs.Names.{Name, Names, Entry, Declared, same_name, text_of, entry_named}
+use Rattle.type_rules.specs.Names.{Name, Entry, Declared, same_name, text_of, entry_named}
 use Rattle.type_rules.specs.Accesses.{of_entry}
 use Rattle.type_rules.specs.Queries.{names_of}
 use Rattle.type_rules.specs.Rules.{is_query}
@@ -14,7 +14,7 @@ use Rattle.desugaring.specs.Programs.{IsProgramOf}
 use Rattle.lawful.specs.Typed.{IsCall}
 use Rattle.lawful.proofs.Distinct.{at_place}
 use Rattle.lawful.proofs.Places.{cases_differ}
-use Rattle.lawful.proofs.Entries.{Stands, entry_there, con_entries, IsConIn}
+use Rattle.lawful.proofs.Entries.{entry_there, con_entries, IsConIn}
 use Rattle.lawful.proofs.Constructors.{entry_of, con_called, proc_called}
 use Rattle.lawful.proofs.RootCalled.{root_called}
 

@@ -17,5 +17,7 @@ mod Roots
 mod RootCalls
 mod RootCalled
 mod Called
+mod Numbers
+mod TextNumbers
 mod SlotLaws
 mod Members

@@ -1,12 +1,9 @@
 -- An access that begins at a root calls an operation or a query of the program.
-use Rattle.std.proofs.Common.{◌≡◌, ◌+◌, ◌<◌, ℕ, zero, suc, Bool, true, false, not, ◌&&◌, ◌==◌, List, [], ◌∷◌, ◌++◌, map, length, Option, Some, None, refl, ap, subst, sym, ◌∙◌, cond, arith}
-use Rattle.std.specs.Prelude.{slice_get, option_map, option_and_then, find, filter_map, nat_lt}
-use Rattle.std.specs.List.{AllByRecursion}
+use Rattle.std.proofs.Common.{◌≡◌, ◌+◌, ℕ, suc, Bool, true, false, not, ◌&&◌, ◌==◌, List, ◌∷◌, map, Option, Some, None, refl, ap, subst, sym, ◌∙◌, cond, arith}
+use Rattle.std.specs.Prelude.{slice_get, option_map}
 use Rattle.std.proofs.lemmas.Bool.{and_parts, eqb-true, lt-ltb}
 use Rattle.std.proofs.lemmas.Cmp.{nat_list_eq_equiv}
 use Rattle.std.proofs.lemmas.Option.{slice_get-map, slice_get_within}
-use Rattle.rp_span.specs.declared.Span.{Span}
-use Rattle.rp_value.specs.declared.tables.Ty.{Ty}
 use Rattle.rp_grammar.specs.Trees.{Ident, CrdtTree, StepTrees, DeclTree}
 use Rattle.rp_lang.specs.declared.op.OpDecl.{OpDecl}
 use Rattle.rp_lang.specs.declared.query.QueryDecl.{QueryDecl}
@@ -14,17 +11,16 @@ use Rattle.rp_lang.specs.Exprs.{Ex}
 use Rattle.rp_lang.specs.Programs.{Prog}
 use Rattle.rp_lang.specs.FirstForm.{tx}
 use Rattle.rp_lang.specs.Typing.{is_get, op_args, query_args, value_asked, is_asked}
-use Rattle.type_rules.specs.declared.kind.Kind.{Kind}
-use Rattle.type_rules.specs.Names.{Name, Names, Entry, Declared, same_name, text_of}
+use Rattle.type_rules.specs.Names.{Name, Entry, Declared, same_name, text_of}
 use Rattle.type_rules.specs.Kinds.{bool_kind, operation_kind}
 use Rattle.type_rules.specs.Paths.{Member, is_operation, member_of, form_of, Way, walked}
-use Rattle.type_rules.specs.Accesses.{Access, access_kind, args_of, of_way, of_entry}
+use Rattle.type_rules.specs.Accesses.{access_kind, args_of, of_way}
 use Rattle.type_rules.specs.Queries.{names_of}
 use Rattle.type_rules.specs.Faults.{IsLawful, IsOneOf}
 use Rattle.desugaring.specs.Parts.{each}
-use Rattle.desugaring.specs.Objects.{KindStep, keys_on, PathOp, PathQuery, Root, root_in, roots_of, Reached, follow, own_ops, own_queries, ops_at, queries_at, path_ops, path_queries, all_of, is_op_at, is_query_at, same_path, op_kinds, query_kinds}
+use Rattle.desugaring.specs.Objects.{keys_on, PathOp, PathQuery, Root, root_in, Reached, follow, own_ops, own_queries, ops_at, queries_at, path_ops, path_queries, is_op_at, is_query_at, same_path, op_kinds, query_kinds}
 use Rattle.desugaring.specs.Tables.{Tables, tables_of, op_decl, op_with, op_table, query_decl, query_with, query_table, step_of, ty_of}
-use Rattle.desugaring.specs.Callees.{Vars, Callee, Called, operation, question, value, located, op_called, query_called, member_at, on_root, of_access}
+use Rattle.desugaring.specs.Callees.{Vars, Called, question, value, located, op_called, query_called, member_at, on_root, of_access}
 use Rattle.desugaring.proofs.Options.{then_there, map_there, both_there, three_there}
 use Rattle.desugaring.proofs.Fields.{each_at}
 use Rattle.lawful.specs.Typed.{IsCall, Along}

@@ -1,30 +1,27 @@
 -- What an access that begins at a root calls, by the program's operations and queries.
-use Rattle.std.proofs.Common.{◌≡◌, ◌+◌, ◌<◌, ℕ, zero, suc, Bool, true, false, not, ◌&&◌, ◌==◌, List, [], ◌∷◌, ◌++◌, map, length, codes, Option, Some, None, refl, ap, subst, sym, ◌∙◌, cond, arith, inl, inr, ◌⊎◌}
-use Rattle.std.specs.Prelude.{slice_get, option_map, option_and_then, find, position, filter_map, nat_lt}
+use Rattle.std.proofs.Common.{◌≡◌, ◌+◌, ℕ, suc, Bool, true, false, List, [], ◌∷◌, Option, Some, None, refl, ap, subst, sym, ◌∙◌, arith, inl, inr}
+use Rattle.std.specs.Prelude.{slice_get, option_map, find, position}
 use Rattle.std.specs.List.{AllByRecursion}
 use Rattle.std.specs.Option.{option_zip}
-use Rattle.std.proofs.lemmas.Bool.{and_parts, eqb-true, lt-ltb}
+use Rattle.std.proofs.lemmas.Bool.{and_parts, eqb-true}
 use Rattle.rp_span.specs.declared.Span.{Span}
-use Rattle.rp_grammar.specs.Trees.{CrdtTree, CrdtForm, StepTrees}
-use Rattle.type_rules.specs.declared.kind.Kind.{Kind}
-use Rattle.type_rules.specs.Names.{Name, Names, same_name, text_of}
+use Rattle.rp_grammar.specs.Trees.{CrdtTree, CrdtForm}
+use Rattle.type_rules.specs.Names.{Name, Names, same_name}
 use Rattle.rp_lang.specs.Typing.{is_get}
 use Rattle.type_rules.specs.Kinds.{bool_kind, operation_kind}
-use Rattle.type_rules.specs.Paths.{Member, members_of, member_of, form_of}
+use Rattle.type_rules.specs.Paths.{Member, members_of, form_of}
 use Rattle.type_rules.specs.Faults.{IsOneOf}
 use Rattle.desugaring.specs.Parts.{each}
-use Rattle.desugaring.specs.Appearances.{same_kind}
-use Rattle.desugaring.specs.Objects.{OwnOp, OwnQuery, own_ops, own_queries, KindStep, field, key, PathOp, PathQuery, Own, Root, all_on, all_of, ops_at, queries_at, Reached, same_step, same_path}
+use Rattle.desugaring.specs.Objects.{OwnOp, OwnQuery, own_ops, own_queries, KindStep, field, key, PathOp, PathQuery, Own, Root, all_on, all_of, ops_at, queries_at, same_step, same_path}
 use Rattle.desugaring.specs.Callees.{located}
 use Rattle.desugaring.proofs.Options.{both_is}
 use Rattle.lawful.proofs.Basics.{kind_one}
 use Rattle.lawful.proofs.Forms.{one}
-use Rattle.lawful.proofs.Distinct.{at_place}
 use Rattle.lawful.proofs.Arms.{same_text}
 use Rattle.lawful.proofs.Cons.{first_of_position}
 use Rattle.lawful.proofs.Entries.{all_map}
 use Rattle.lawful.proofs.Places.{all_both, all_of_each}
-use Rattle.lawful.proofs.Roots.{Reaches, OnPath, Made, on_path, all_changed}
+use Rattle.lawful.proofs.Roots.{OnPath, Made, on_path, all_changed}
 
 -- # The first that passes, with its number
 
