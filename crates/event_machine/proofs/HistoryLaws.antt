@@ -1,5 +1,5 @@
 -- The laws of valid states, each as it is stated.
-use Rattle.std.proofs.Common.{◌≡◌, ◌≢◌, ℕ, ◌<◌, Bool, true, List, [], length, map, sym, ◌∙◌, ap, subst, inl, inr}
+use Rattle.std.proofs.Common.{◌≡◌, ℕ, Bool, List, [], length, map, ◌∙◌, ap, inl, inr}
 use Rattle.std.specs.declared.option.Option.TheVariants.{Some}
 use Rattle.std.proofs.lemmas.Option.{none-some}
 use Rattle.rp_lang.specs.Formulas.{Fo}
@@ -9,7 +9,7 @@ use Rattle.crdt_lib.specs.Histories.{call_is}
 use Rattle.crdt_lib.specs.Snapshots.{bit}
 use Rattle.crdt_lib.specs.Truths.{truth}
 use Rattle.event_machine.specs.Machine.{Tx, State, info, at_snapshot}
-use Rattle.event_machine.specs.WellFormed.{At, opened_by, commits_of}
+use Rattle.event_machine.specs.WellFormed.{opened_by, commits_of}
 use Rattle.event_machine.specs.Growth.{IsValid}
 use Rattle.event_machine.specs.OldCalls.{old}
 use Rattle.crdt_lib.specs.Longer.{IsLonger, Bounded}

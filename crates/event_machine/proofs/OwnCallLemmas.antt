@@ -7,7 +7,7 @@ use Rattle.event_machine.specs.Machine.{Running, Invocation, State}
 use Rattle.event_machine.specs.WellFormed.{At, In, Past, IsMarker, IsCausal}
 use Rattle.event_machine.specs.Growth.{IsValid}
 use Rattle.event_machine.proofs.PlaceLemmas.{at-lt, at-exists, same-or}
-use Rattle.event_machine.proofs.ViewLemmas.{Closed, closed-snapshot}
+use Rattle.event_machine.proofs.ViewLemmas.{closed-snapshot}
 use Rattle.event_machine.proofs.MoveLemmas.{by-cases}
 
 module _ (p : Prog) (s : State) (valid : IsValid p s) where

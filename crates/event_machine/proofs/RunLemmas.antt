@@ -10,7 +10,7 @@ use Rattle.rp_lang.specs.WellFormed.{is_well_formed}
 use Rattle.crdt_lib.specs.Truths.{Reading, truth}
 use Rattle.event_machine.specs.Machine.{Invocation, State, empty, Label, Invoke, Begin, Op, Local, New, Commit, Return, Fail, Check, Why, NoInvocation, NotRunning, What, Invariant, Answer, Moved, Violated, unless, is_running, calls_of, at_snapshot, named, started, checked, effect, refusal, unless_refused, step}
 use Rattle.event_machine.specs.Runs.{Leads, Run, Violates, IsSafe}
-use Rattle.event_machine.specs.WellFormed.{At, ProcsFit, IsWellFormed}
+use Rattle.event_machine.specs.WellFormed.{At, IsWellFormed}
 use Rattle.event_machine.specs.Growth.{IsValid, Grows}
 use Rattle.event_machine.specs.LocalSafety.{HoldsAll, IsRunning, SafeFor, IsLocallySafe, StartsSafe}
 use Rattle.event_machine.proofs.PlaceLemmas.{at-push, at-one, at-set, at-exists, same-or}

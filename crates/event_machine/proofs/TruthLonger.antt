@@ -21,7 +21,7 @@ use Rattle.crdt_lib.specs.Histories.{call_is, before, some_call}
 use Rattle.crdt_lib.specs.Parts.{Info, is_committed, each_member, some_member, is_done_by, is_before_all_of, inv_before}
 use Rattle.crdt_lib.specs.Queries.{answer_in}
 use Rattle.crdt_lib.specs.Snapshots.{bit}
-use Rattle.crdt_lib.specs.Truths.{Reading, slot_value, or_false, number, list_of, truth_val, nth_con, answer_val, asked, origin_of, operation_of, call_at, is_visible, is_before, is_same, value, values, Plain, Operation, Invoked, EndedWith, info_of, info_at, result_of, meant, same_meant, is_true, is_built, bind, bind_fields, truth, all_true, any_true, arm_true}
+use Rattle.crdt_lib.specs.Truths.{Reading, slot_value, or_false, number, list_of, truth_val, answer_val, asked, origin_of, operation_of, call_at, is_visible, is_before, is_same, value, values, Plain, Operation, Invoked, EndedWith, info_of, info_at, result_of, meant, same_meant, is_true, is_built, bind, bind_fields, truth, all_true, any_true, arm_true}
 use Rattle.crdt_lib.proofs.AskedLemmas.{answer-visible, asked_is}
 use Rattle.event_machine.specs.WellFormed as formed
 use Rattle.crdt_lib.specs.Longer.{IsLonger, Bounded}

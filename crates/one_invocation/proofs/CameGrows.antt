@@ -1,9 +1,8 @@
 -- Growth by others carries a trail on.
-use Rattle.std.proofs.Common.{◌≡◌, ℕ, zero, suc, ◌-◌, ◌≤◌, Bool, true, false, ◌||◌, List, length, refl, ap, sym, ◌∙◌, subst, arith}
+use Rattle.std.proofs.Common.{◌≡◌, ℕ, ◌-◌, ◌||◌, List, length, refl, ap, sym, ◌∙◌, subst}
 use Rattle.std.specs.declared.option.Option.{Option}
 use Rattle.std.specs.declared.option.Option.TheVariants.{None, Some}
 use Rattle.rp_lang.specs.Programs.{Proc, Prog}
-use Rattle.crdt_lib.specs.Calls.{Call}
 use Rattle.event_machine.specs.Machine.{Invocation, Tx, State, first_slots, own_calls, reading_set}
 use Rattle.event_machine.specs.WellFormed.{At, opened_by}
 use Rattle.event_machine.specs.Growth.{IsValid, Grows}

@@ -17,11 +17,11 @@ use Rattle.crdt_lib.specs.Truths.{truth_val, list_of, value, values, truth}
 use Rattle.crdt_lib.proofs.SameLemmas.{same_val_is}
 use Rattle.event_machine.specs.Code.{Code}
 use Rattle.event_machine.specs.Fitting.{fits, is_id}
-use Rattle.event_machine.specs.Machine.{Invocation, Tx, State, first_slots, is_in, listed, calls_of, own_calls, reading_set, at_invocation, stands_in, is_generated, begun, operated, committed, filled}
+use Rattle.event_machine.specs.Machine.{Invocation, Tx, State, first_slots, is_in, listed, calls_of, own_calls, reading_set, at_invocation, is_generated, begun, operated, committed, filled}
 use Rattle.event_machine.specs.WellFormed.{At, In, opened_by, Inside, IsCausal, IsWellFormed}
 use Rattle.event_machine.specs.Growth.{IsPrivate, IsValid}
-use Rattle.event_machine.proofs.PlaceLemmas.{longer-from, both-ways, at-push, at-keep, at-new, at-one, at-lt, at-exists, at-set, at-set_same, or-cases, or-left, or-right, to-call_is, in-calls_of, to-calls_of, in-own, to-own, in-listed, to-listed}
-use Rattle.event_machine.proofs.ReadLemmas.{any-left, any-right}
+use Rattle.event_machine.proofs.PlaceLemmas.{longer-from, both-ways, at-push, at-keep, at-new, at-one, at-lt, at-exists, at-set_same, or-cases, or-left, or-right, to-call_is, in-calls_of, to-calls_of, in-own, to-own, in-listed, to-listed}
+use Rattle.event_machine.proofs.ReadLemmas.{any-left}
 use Rattle.event_machine.proofs.ViewLemmas.{marker_call}
 use Rattle.event_machine.proofs.MoveLemmas.{Keeps}
 use Rattle.event_machine.proofs.KnownLemmas.{changed}

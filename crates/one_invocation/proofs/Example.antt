@@ -1,5 +1,5 @@
 -- The goals of a program are met, shown by hand.
-use Rattle.std.proofs.Common.{◌≡◌, ◌≢◌, ℕ, zero, suc, ◌<◌, Bool, true, false, ◌&&◌, ◌||◌, not, List, [], ◌∷◌, All, length, refl, ap, sym, ◌∙◌, subst, arith, nat_eq, slice_get, ◌⊎◌, inl, inr, true≢false, eqb-true, eq-eqb}
+use Rattle.std.proofs.Common.{◌≡◌, ◌≢◌, ℕ, zero, suc, ◌<◌, Bool, true, false, ◌||◌, not, List, [], ◌∷◌, All, length, refl, ap, sym, ◌∙◌, subst, arith, nat_eq, slice_get, ◌⊎◌, inl, inr, true≢false, eqb-true, eq-eqb}
 use Rattle.std.specs.declared.option.Option.{Option}
 use Rattle.std.specs.declared.option.Option.TheVariants.{Some}
 use Rattle.std.proofs.lemmas.Bool.{and_parts}

@@ -1,16 +1,13 @@
 -- A trail's conditions hold in a longer history.
-use Rattle.std.proofs.Common.{◌≡◌, ℕ, zero, suc, ◌<◌, Bool, true, false, ◌&&◌, ◌||◌, List, [], ◌∷◌, length, refl, ap, sym, ◌∙◌, subst, slice_get, slice_set, nat_eq, inl, inr, true≢false, eqb-true, lt_trans}
+use Rattle.std.proofs.Common.{◌≡◌, ℕ, ◌<◌, Bool, true, false, ◌||◌, List, [], ◌∷◌, length, refl, ap, sym, ◌∙◌, subst, slice_get, slice_set, nat_eq, inl, inr, true≢false, eqb-true, lt_trans}
 use Rattle.std.specs.List.{list_any}
 use Rattle.std.specs.declared.option.Option.{Option}
 use Rattle.std.specs.declared.option.Option.TheVariants.{None, Some}
-use Rattle.std.proofs.lemmas.Option.{none-some, same_Some}
+use Rattle.std.proofs.lemmas.Option.{same_Some}
 use Rattle.rp_value.specs.declared.tables.Ty.TheVariants as ty
-use Rattle.rp_value.specs.declared.tables.Ty.{Ty}
-use Rattle.rp_value.specs.Values as val
 use Rattle.rp_value.specs.Values.{Val, Vals, no_val, also_val}
 use Rattle.rp_lang.specs.Exprs.{Ex, Exs}
 use Rattle.rp_lang.specs.Formulas.{Fo}
-use Rattle.rp_lang.specs.Programs.{Prog}
 use Rattle.crdt_lib.specs.Calls.{Call}
 use Rattle.crdt_lib.specs.Histories.{meets, call_is, before}
 use Rattle.crdt_lib.specs.Snapshots.{bit}

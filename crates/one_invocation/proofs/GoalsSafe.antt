@@ -1,23 +1,20 @@
 -- A program whose goals are met starts safe.
-use Rattle.std.proofs.Common.{◌≡◌, ℕ, zero, suc, ◌<◌, Bool, true, List, [], ◌∷◌, ◌++◌, All, length, refl, ap, sym, ◌∙◌, subst, slice_get, ◌⊎◌, inl, inr, true≢false, lt_irrefl}
+use Rattle.std.proofs.Common.{◌≡◌, ℕ, zero, suc, ◌<◌, true, List, [], ◌∷◌, ◌++◌, All, length, refl, ap, sym, ◌∙◌, subst, inl, inr, true≢false, lt_irrefl}
 use Rattle.std.specs.declared.option.Option.{Option}
 use Rattle.std.specs.declared.option.Option.TheVariants.{Some}
 use Rattle.std.proofs.lemmas.Option.{none-some, same_Some}
 use Rattle.rp_span.specs.declared.Span.{Span}
 use Rattle.rp_value.specs.Values.{Val}
 use Rattle.rp_lang.specs.Exprs.{Ex}
-use Rattle.rp_lang.specs.Programs.{Proc, Inv, Prog}
+use Rattle.rp_lang.specs.Programs.{Proc, Prog}
 use Rattle.rp_lang.specs.WellFormed.{is_well_formed}
-use Rattle.crdt_lib.specs.Calls.{Call}
-use Rattle.crdt_lib.specs.Truths.{value}
 use Rattle.event_machine.specs.Code as left
-use Rattle.event_machine.specs.Code.{Code, proc_code}
-use Rattle.event_machine.specs.Machine.{Invocation, State, Label, Invoke, Begin, Op, Local, New, Commit, Return, Fail, Check, at_invocation, named, with_invocation, started, committed, commits, returns, effect, refusal, step}
+use Rattle.event_machine.specs.Code.{Code}
+use Rattle.event_machine.specs.Machine.{Invocation, State, Label, Invoke, Begin, Op, Local, New, Commit, Return, Fail, Check, named, started, committed, effect, refusal, step}
 use Rattle.event_machine.specs.Runs.{Leads, IsSafe}
 use Rattle.event_machine.specs.WellFormed.{At}
-use Rattle.event_machine.specs.Growth.{IsValid, Grows}
+use Rattle.event_machine.specs.Growth.{IsValid}
 use Rattle.event_machine.specs.LocalSafety.{HoldsAll, IsRunning, SafeFor, IsLocallySafe, StartsSafe}
-use Rattle.event_machine.specs.OldCalls.{is_quiet}
 use Rattle.event_machine.proofs.PlaceLemmas.{at-new, at-lt}
 use Rattle.event_machine.proofs.ListLemmas.{All-left}
 use Rattle.event_machine.proofs.MoveLemmas.{acted, step-moves}

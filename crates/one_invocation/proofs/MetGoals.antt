@@ -1,13 +1,11 @@
 -- Where all goals of a program are met, those of each place are, and claims give the invariants.
-use Rattle.std.proofs.Common.{◌≡◌, ℕ, zero, suc, ◌+◌, true, false, List, [], ◌∷◌, ◌++◌, All, refl, ap, sym, subst, arith, slice_get}
-use Rattle.std.specs.declared.option.Option.TheVariants.{Some}
+use Rattle.std.proofs.Common.{◌≡◌, ℕ, zero, suc, ◌+◌, true, false, List, [], ◌∷◌, ◌++◌, All, refl, sym, subst, arith}
 use Rattle.std.proofs.lemmas.Option.{none-some, same_Some}
 use Rattle.std.proofs.lemmas.List.Elements.{All-head, All-tail}
 use Rattle.rp_lang.specs.Exprs.{Ex}
 use Rattle.rp_lang.specs.Programs.{Proc, Inv, Prog}
 use Rattle.crdt_lib.specs.Calls.{Call}
-use Rattle.event_machine.specs.Code as left
-use Rattle.event_machine.specs.Code.{Code, CodeArms, also_code, proc_code}
+use Rattle.event_machine.specs.Code.{Code, CodeArms, proc_code}
 use Rattle.event_machine.specs.Machine.{Invocation, State}
 use Rattle.event_machine.specs.WellFormed.{At}
 use Rattle.event_machine.specs.Growth.{IsValid}

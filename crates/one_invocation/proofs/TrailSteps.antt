@@ -1,6 +1,6 @@
 -- Each accepted label of an invocation that has come along a trail extends the trail, or ends the invocation.
-use Rattle.std.proofs.Common.{◌≡◌, ◌≢◌, ℕ, suc, Bool, true, false, if◌then◌else◌, List, [], ◌∷◌, ◌++◌, length, refl, ap, sym, ◌∙◌, subst, slice_get, slice_set, ◌⊎◌, inl, inr, true≢false, eqb-true}
-use Rattle.std.specs.Option.{option_map_or, option_map}
+use Rattle.std.proofs.Common.{◌≡◌, ◌≢◌, ℕ, suc, Bool, true, false, if◌then◌else◌, List, [], ◌∷◌, ◌++◌, length, refl, ap, sym, ◌∙◌, subst, slice_set, ◌⊎◌, inl, inr, true≢false, eqb-true}
+use Rattle.std.specs.Option.{option_map}
 use Rattle.std.specs.declared.option.Option.{Option}
 use Rattle.std.specs.declared.option.Option.TheVariants.{None, Some}
 use Rattle.std.proofs.lemmas.Option.{none-some, same_Some}
@@ -8,7 +8,6 @@ use Rattle.rp_span.specs.declared.Span.{Span}
 use Rattle.rp_value.specs.Values as val
 use Rattle.rp_value.specs.Values.{Val, Vals}
 use Rattle.rp_lang.specs.Exprs.{Ex, Exs}
-use Rattle.rp_lang.specs.Formulas.{Fo}
 use Rattle.rp_lang.specs.Programs.{Proc, Prog}
 use Rattle.crdt_lib.specs.Calls.{Call}
 use Rattle.crdt_lib.specs.Truths.{truth_val, list_of, value, values, truth, is_built}

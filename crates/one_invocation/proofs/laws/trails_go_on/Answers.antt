@@ -1,5 +1,4 @@
 use Rattle.std.proofs.Common.{sym, subst, length, inl, inr, []}
-use Rattle.std.specs.Prelude.{ℕ}
 use Rattle.event_machine.specs.Machine.{State, Invoke, started}
 use Rattle.event_machine.proofs.MoveLemmas.{step-moves}
 use Rattle.one_invocation.specs.Places.{at_start}
