@@ -13,7 +13,7 @@ use Rattle.refute_defs.specs.Parts.{equal, at_most}
 use Rattle.refute_defs.specs.Branches.{Branch}
 use Rattle.refute_defs.specs.Children.{conjuncts, disjuncts, universal, existential, literal, equality, order, constant, built, are_opposite}
 use Rattle.refute_defs.specs.NewTerms.{HasSort, IsTerm, IsNumberTerm, sort_of, is_term, is_number, declared_sort, datatype}
-use Rattle.refute_defs.proofs.Options.{tested, test_is, then_is, and_then, some_of}
+use Rattle.rp_logic.proofs.Options.{tested, test_is, then_is, and_then, some_of}
 use Rattle.refute_defs.proofs.SameTerms.{at_is}
 
 -- # Formulas

@@ -19,7 +19,7 @@ use Rattle.refute_defs.specs.Numbers.{fits, within}
 use Rattle.refute_defs.specs.NewTerms.{datatype}
 use Rattle.refute_defs.specs.Rules.{Names, Stands, Equalities, Chain, Step}
 use Rattle.refute_defs.specs.Rules as rule
-use Rattle.refute_defs.proofs.Options.{then_is, map_is, test_is}
+use Rattle.rp_logic.proofs.Options.{then_is, map_is, test_is}
 use Rattle.refute_defs.proofs.SameTerms.{is_tm, tm_itself, at_itself, same_int, same_text}
 use Rattle.refute_defs.proofs.Named.{named}
 use Rattle.refute_defs.proofs.Forms as form

@@ -5,7 +5,6 @@ pub mod KeepsSorts
 pub mod Meets
 pub mod Named
 pub mod NumberTests
-pub mod Options
 pub mod RuleTruth
 pub mod SameTerms
 pub mod SignatureFacts

@@ -20,7 +20,7 @@ use Rattle.refute_defs.specs.NewTerms.{IsTerm, declared_sort}
 use Rattle.refute_defs.specs.Children as child
 use Rattle.refute_defs.specs.Rules.{Names, Stands, Equalities, Chain, Step}
 use Rattle.refute_defs.specs.Rules as rule
-use Rattle.refute_defs.proofs.Options.{and_then, mapped, tested, either}
+use Rattle.rp_logic.proofs.Options.{and_then, mapped, tested, either}
 use Rattle.refute_defs.proofs.SameTerms.{tm_is, int_itself, text_itself, same_int}
 use Rattle.refute_defs.proofs.Named as names
 use Rattle.refute_defs.proofs.Forms as form

@@ -6,7 +6,7 @@ use Rattle.rp_logic.specs.Terms.{Tm, At}
 use Rattle.refute_defs.specs.Uses.{Use}
 use Rattle.refute_defs.specs.Shapes.{only, only_two, place_and_pick, the_places, the_place, two_places, place_and_term, term_with_places, term_and_pick, the_term, two_terms, the_atom}
 use Rattle.refute_defs.specs.Rules.{Names}
-use Rattle.refute_defs.proofs.Options.{and_then, mapped, tested}
+use Rattle.rp_logic.proofs.Options.{and_then, mapped, tested}
 
 empty : {A : Type 0} (xs : List A) → eqb (length xs) 0 ≡ true → xs ≡ []
 empty [] e = refl

@@ -15,7 +15,7 @@ use Rattle.rp_logic.specs.Truth.{Meaning, meaning_with, value, values, atom_trut
 use Rattle.rp_logic.specs.Instance.{instance}
 use Rattle.rp_logic.proofs.InstanceLaws.{instance_law}
 use Rattle.rp_logic.proofs.SortLaws.{no}
-use Rattle.rp_logic.proofs.ValueSorts.{closed_of_sort, value_sort}
+use Rattle.rp_logic.proofs.ValueSorts.{closed_of_sort, closed_value}
 use Rattle.refute_defs.specs.Uses.{Use, Nd, Rule, Unvisited, Current}
 use Rattle.refute_defs.specs.Parts.{nth_fm, args, with_args, atom_args, atom_with, built_with}
 use Rattle.refute_defs.specs.Additions.{Addition, formula_alone, one_child, child_for_each, child_for_each_con, bringing}
@@ -146,7 +146,7 @@ number : (S : Signature) → IsKept S → (M : Structure) (k : ℕ → Elem) (ns
     → has_sort S ns [] s x ≡ true
     → value (meaning_with S M k) [] x ≡ Whole (number_of (value (meaning_with S M k) [] x))
 number S i M k ns w x s p h =
-    is_whole S M.sizes s (value (meaning_with S M k) [] x) p (value_sort x S M k ns s w h) (λ c q. let d = i.of_datatype c s q in no (subst (λ o. is_int o ≡ true) d.1 p))
+    is_whole S M.sizes s (value (meaning_with S M k) [] x) p (closed_value x S M k ns s w h) (λ c q. let d = i.of_datatype c s q in no (subst (λ o. is_int o ≡ true) d.1 p))
 
 pub step_sound : (S : Signature) → IsKept S → (b : Branch) (u : Use) (adds : List Addition)
     → EachSorted S b.added b.formulas → Step S b u adds → NoModels S (extend_each b adds)
@@ -158,7 +158,7 @@ step_sound S i b u adds o (rule.split p fs a at e) n M k w t =
 step_sound S i b u adds o (rule.instantiate p s x f a at h e) n M k w t =
     one_more S b (instance x f) adds e n M k w t
     ((instance_law f (meaning_with S M k) [] [] x (closed_of_sort x S b.added s h)).1
-    (true_at _ _ _ _ at t (value (meaning_with S M k) [] x) (value_sort x S M k b.added s w h)))
+    (true_at _ _ _ _ at t (value (meaning_with S M k) [] x) (closed_value x S M k b.added s w h)))
 step_sound S i b u adds o (rule.new_constant p s c f a at l lack e) n M k w t =
     new_sound S b p s c f at l lack (moved S b adds (bringing c s (instance (Const c) f)) e n) M k w t
 step_sound S i b u adds o (rule.cut a q h e) n M k w t =
@@ -196,7 +196,7 @@ step_sound S i b u adds o (rule.injective p c ts us x y a at j l e) n M k w t =
     (is-same (value m [] x) (value m [] y) (sym (nth_value m ts u.pick x j) ∙ ap (λ xs. nth_elem xs u.pick) q ∙ nth_value m us u.pick y l))
 step_sound S i b u adds o (rule.cases x s cs a d h e) n M k w t =
     let v = value (meaning_with S M k) [] x in
-    let y = made_by S M.sizes s cs v d (value_sort x S M k b.added s w h) in
+    let y = made_by S M.sizes s cs v d (closed_value x S M k b.added s w h) in
     let l = i.listed s y.0 cs d y.3 in
     cases_sound S b x M k w t cs (moved S b adds (child_for_each_con S x cs) e n) l.0 y.0 l.1 (case_true S M k x y.0 y.1 y.2 y.4)
 step_sound S i b u adds o (rule.selector c j ts x a h l e) n M k w t =

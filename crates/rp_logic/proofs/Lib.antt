@@ -1,12 +1,17 @@
 pub mod DualLaws
+pub mod DualSorts
 pub mod EachSorted
 pub mod ElementLaws
+pub mod FillingLaws
 pub mod FormulaViews
 pub mod InstanceLaws
 pub mod KeptLaws
+pub mod KeptSorts
 pub mod ListViews
 pub mod NewConstantSorts
 pub mod NewConstants
+pub mod OpenSorts
+pub mod Options
 pub mod RowLaws
 pub mod ScopeViews
 pub mod SortLaws

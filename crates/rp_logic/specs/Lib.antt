@@ -1,6 +1,7 @@
 pub mod Constants
 pub mod Dual
 pub mod Elements
+pub mod Filling
 pub mod Formulas
 pub mod Instance
 pub mod Scopes

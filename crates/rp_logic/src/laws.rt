@@ -9,6 +9,7 @@ ghost use Rattle.rp_logic.specs.Constants.{formula_lacks, with_value};
 ghost use Rattle.rp_logic.specs.Structures.{Structure, Fits, Is};
 ghost use Rattle.rp_logic.specs.Instance.{instance};
 ghost use Rattle.rp_logic.specs.Dual.{dual};
+ghost use Rattle.rp_logic.specs.Filling.{filled_in, Gives, AreIn, Suits};
 ghost use Rattle.rp_logic.specs.Truth.{Meaning, meaning_with, value, Holds, IsInstance, IsDenial};
 
 use crate::sort::NewConst;
@@ -53,4 +54,23 @@ pub fn unused_constants_are_free()
         → Holds (meaning_with S M (with_value consts c v)) vars f ↔ Holds (meaning_with S M consts) vars f }
     ensures sort { (S : Signature) (added : List NewConst) (new : NewConst) (scope : List ℕ) (f : Fm) → formula_lacks new.number f ≡ true
         → IsSorted S added scope f → IsSorted S (added ++ new ∷ []) scope f }
+{}
+
+/// A term that has a sort under a scope has an element of the sort for its value, where the variables' elements are of the scope's sorts.
+pub fn open_terms_have_values()
+    ensures { (S : Signature) (M : Structure) (consts : ℕ → Elem) (added : List NewConst) (scope : List ℕ) (vars : List Elem) (s : ℕ) (t : Tm)
+        → Fits S M consts added → AreIn S M scope vars → IsTrue (has_sort S added scope s t) → Is S M s (value (meaning_with S M consts) vars t) }
+{}
+
+/// With terms in place of variables a formula means what it means at the terms' values, and is as well sorted as it was.
+pub fn filling_means_its_values()
+    ensures meaning { (f : Fm) (M : Meaning) (s : ℕ → Tm) (vars others : List Elem) → Gives M s vars others → Holds M vars (filled_in s f) ↔ Holds M others f }
+    ensures sorted { (f : Fm) (S : Signature) (added : List NewConst) (scope old : List ℕ) (s : ℕ → Tm)
+        → Suits S added scope old s → IsSorted S added old f → IsSorted S added scope (filled_in s f) }
+{}
+
+/// The dual of a formula's dual is the formula, and a dual is as well sorted.
+pub fn duals_are_mutual()
+    ensures twice { (f : Fm) → dual (dual f) ≡ f }
+    ensures sorted { (f : Fm) (S : Signature) (added : List NewConst) (scope : List ℕ) → IsSorted S added scope f → IsSorted S added scope (dual f) }
 {}

@@ -17,8 +17,9 @@ mod term;
 pub use atom::Atom;
 pub use formula::{Fml, copy_formulas};
 pub use laws::{
-    closed_terms_have_values, dual_is_the_denial, equal_elements_pass, instance_means_its_body,
-    instances_are_sorted, truth_is_classical, unused_constants_are_free,
+    closed_terms_have_values, dual_is_the_denial, duals_are_mutual, equal_elements_pass,
+    filling_means_its_values, instance_means_its_body, instances_are_sorted,
+    open_terms_have_values, truth_is_classical, unused_constants_are_free,
 };
 pub use negation::negate;
 pub use scope::Scope;

@@ -1,0 +1,4 @@
+pub mod Determining
+pub mod Eliminating
+pub mod Joined
+pub mod rows
