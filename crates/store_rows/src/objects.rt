@@ -1,5 +1,6 @@
 // How the roots, operations and queries of a program are written.
 use crate::notation::{Word, cut, listed};
+use program_check::checked_program;
 use rp_lang::{Crdt, Field, OpDecl, OpKind, PathStep, Program, QueryDecl, QueryKind, Root};
 use rp_value::{
     AtomType, Boxed, ConDecl, ConTable, DataDecl, List, Memory, Ty, TypeTable, copy_bytes,
@@ -214,7 +215,7 @@ pub(crate) fn program_of(alloc: Global, block: &str) -> Result<Option<Program>, 
     }
     let invs = List::new(alloc);
     let procs = List::new(alloc);
-    Ok(Program::new(
+    Ok(checked_program(
         types,
         cons,
         draft.roots,

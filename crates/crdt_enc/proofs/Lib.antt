@@ -1,0 +1,17 @@
+pub mod AskFacts
+pub mod AskLaws
+pub mod BuilderLaws
+pub mod CallLaws
+pub mod ClosedLaws
+pub mod CountLaws
+pub mod FormulaLaws
+pub mod MeantLaws
+pub mod ProgramLaws
+pub mod QuestionLaws
+pub mod RangeLaws
+pub mod StageFacts
+pub mod Starts
+pub mod StayLaws
+pub mod TermLaws
+pub mod ValueLaws
+pub mod WayLaws

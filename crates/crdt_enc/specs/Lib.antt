@@ -1,0 +1,10 @@
+pub mod Builders
+pub mod Elements
+pub mod FitsParts
+pub mod FormulaFormulas
+pub mod means
+pub mod Places
+pub mod QueryFormulas
+pub mod rows
+pub mod Stages
+pub mod Ways

@@ -1,0 +1,4 @@
+-- Worked rows.
+pub mod AddWins
+pub mod Forms
+pub mod Shapes

@@ -1,0 +1,54 @@
+//! Laws of the definitions, as functions with nothing to run.
+ghost use Rattle.std.specs.Prelude.{◌≡◌, ◌≤◌, ◌<◌, ◌&&◌, nat_lt, IsTrue, ℕ, Bool, List, Some};
+ghost use Rattle.rp_lang.specs.Programs.{Prog};
+ghost use Rattle.rp_lang.specs.WellFormed.{is_well_formed};
+ghost use Rattle.crdt_lib.specs.Snapshots.{IsSnapshot};
+ghost use Rattle.event_machine.specs.Machine.{State, Label, step, plain};
+ghost use Rattle.event_machine.specs.Runs.{Leads};
+ghost use Rattle.event_machine.specs.WellFormed.{commits_of};
+ghost use Rattle.rp_logic.specs.Elements.{Elem};
+ghost use Rattle.rp_logic.specs.Structures.{apply, is_related};
+ghost use Rattle.rp_logic.specs.Truth.{Meaning, AllTrue};
+ghost use Rattle.crdt_enc.specs.FitsParts.{FitsParts};
+ghost use Rattle.hist_struct.specs.Steps.{Step, begins, IsValid, IsStep, Acts, step_of, nothing_yet};
+ghost use Rattle.hist_struct.specs.Structure.{sig_at, meaning_of};
+ghost use Rattle.hist_struct.specs.Snapshots.{before_at, after_at, AreSnapshots};
+ghost use Rattle.hist_struct.specs.Holding.{AreExact, AreMet, axioms};
+ghost use Rattle.hist_struct.specs.Tables.{one_point, two_points, set_relation, pair_relation, table};
+
+/// In every structure the formulas of the axioms are true exactly where the conditions hold.
+pub fn axioms_are_exact()
+    ensures { (p : Prog) (begins : ℕ) (M : Meaning) → AreExact p begins M }
+{}
+
+/// In the structure of every step the conditions hold, and so the formulas are true.
+pub fn axioms_hold()
+    ensures met { (x : Step) (consts : List ℕ) (reads : ℕ) → IsTrue (is_well_formed x.program) → IsStep x
+        → AreMet x.program (begins x) (meaning_of (sig_at x consts reads) x) }
+    ensures true_there { (x : Step) (consts : List ℕ) (reads : ℕ) → IsTrue (is_well_formed x.program) → IsStep x
+        → AllTrue (meaning_of (sig_at x consts reads) x) (axioms x.program (begins x)) }
+{}
+
+/// The structure fits the state before the step, and the state after it; what invariants are assumed at are snapshots.
+pub fn structures_fit()
+    ensures before { (x : Step) (consts : List ℕ) (reads : ℕ) → IsTrue (is_well_formed x.program) → IsStep x → (view : ℕ)
+        → FitsParts x.program (meaning_of (sig_at x consts reads) x) (before_at view) (plain x.old) }
+    ensures after { (x : Step) (consts : List ℕ) (reads : ℕ) → IsTrue (is_well_formed x.program) → IsStep x → (view : ℕ)
+        → FitsParts x.program (meaning_of (sig_at x consts reads) x) (after_at view) (plain x.new) }
+    ensures snapshots { (x : Step) → IsTrue (is_well_formed x.program) → IsStep x → AreSnapshots x }
+{}
+
+/// The start is a step, and so is each accepted label of a valid state, with each snapshot of the new state.
+pub fn labels_are_steps()
+    ensures start { (p : Prog) (universe : ℕ) → 1 ≤ universe → IsStep (nothing_yet p universe) }
+    ensures label { (p : Prog) → IsTrue (is_well_formed p) → (s : State) (label : Label) (new : State) (i : ℕ) → IsValid p s
+        → Leads s (step p s label) new → Acts s label i → (v : ℕ → Bool) → IsSnapshot new.calls (commits_of new.txs) v
+        → (views : ℕ) (vals : List Elem) → IsStep (step_of p s new i v views vals) }
+{}
+
+/// Tables hold what they are made of.
+pub fn tables_hold()
+    ensures sets { (f : ℕ → Bool) (n c : ℕ) → is_related (Some (set_relation f n)) (one_point c) ≡ (f c && nat_lt c n) }
+    ensures pairs { (f : ℕ → ℕ → Bool) (n c d : ℕ) → c < n → d < n → is_related (Some (pair_relation f n)) (two_points c d) ≡ f c d }
+    ensures functions { (f : ℕ → Elem) (n c : ℕ) → c < n → apply (Some (table f n)) (one_point c) ≡ f c }
+{}

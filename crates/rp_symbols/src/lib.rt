@@ -1,0 +1,7 @@
+//! The symbols of a program's signatures, and their numbers. What the definitions say stands in `specs/`.
+#![tactic(auto)]
+
+mod laws;
+pub mod rows;
+
+pub use laws::{constructors_stand_at_their_numbers, sorts_stand_at_their_numbers};
