@@ -1,5 +1,5 @@
 -- Labels that only add calls of open transactions keep all invariants.
-use Rattle.std.proofs.Common.{◌≡◌, ℕ, zero, suc, Bool, true, List, [], ◌∷◌, ◌++◌, map, refl, ap, ap₂, sym, ◌∙◌, subst, length, slice_set, inl, inr, true≢false}
+use Rattle.std.proofs.Common.{◌≡◌, ◌≢◌, ℕ, zero, suc, Bool, true, List, [], ◌∷◌, ◌++◌, map, refl, ap, ap₂, sym, ◌∙◌, subst, length, slice_set, inl, inr, true≢false}
 use Rattle.std.specs.declared.option.Option.TheVariants.{Some}
 use Rattle.std.proofs.lemmas.Option.{none-some, same_Some}
 use Rattle.rp_lang.specs.Programs.{Prog}
@@ -138,4 +138,26 @@ pub quiet-holds : (p : Prog) (s : State) (label : Label) (new : State) → IsVal
 quiet-holds p s label new valid quiet holds l = elim (step-moves p s label new valid.formed.history l) [
   | inl same ↦ subst (HoldsAll p) (sym same) holds
   | inr m ↦ holds-adds p s new valid.typed (quiet-adds p s label new valid quiet m) holds
+]
+
+-- # Snapshots
+
+does-back : (p : Prog) (s : State) (label : Label) (new : State) (seen : ℕ → Bool) → IsValid p s → ((i : ℕ) → label ≢ Commit i) → Does p s label new
+    → Closed new.calls new.txs seen → Closed s.calls s.txs seen
+does-back p s (Invoke proc args) new seen valid other m k = subst (λ (n : State). Closed n.calls n.txs seen) m.4 k
+does-back p s (Begin i stamp sees) new seen valid other m k = adds-closed s new seen (quiet-adds p s (Begin i stamp sees) new valid refl m) k
+does-back p s (Op i stamp) new seen valid other m k = adds-closed s new seen (quiet-adds p s (Op i stamp) new valid refl m) k
+does-back p s (Local i) new seen valid other m k = adds-closed s new seen (quiet-adds p s (Local i) new valid refl m) k
+does-back p s (New i id) new seen valid other m k = adds-closed s new seen (quiet-adds p s (New i id) new valid refl m) k
+does-back p s (Commit i) new seen valid other m k = absurd (other i refl)
+does-back p s (Return i) new seen valid other m k = subst (λ (n : State). Closed n.calls n.txs seen) m.4 k
+does-back p s (Fail i) new seen valid other m k = adds-closed s new seen (quiet-adds p s (Fail i) new valid refl m) k
+does-back p s (Check sees) new seen valid other m k = absurd m
+
+-- a snapshot after a label that isn't a commit is one before it
+pub snapshot-back : (p : Prog) (s : State) (label : Label) (new : State) (seen : ℕ → Bool) → IsValid p s → ((i : ℕ) → label ≢ Commit i) → Leads s (step p s label) new
+    → Closed new.calls new.txs seen → Closed s.calls s.txs seen
+snapshot-back p s label new seen valid other l k = elim (step-moves p s label new valid.formed.history l) [
+  | inl same ↦ subst (λ (n : State). Closed n.calls n.txs seen) same k
+  | inr m ↦ does-back p s label new seen valid other m k
 ]

@@ -1,5 +1,5 @@
 // Laws of valid states: how calls lie in them, which sets are consistent snapshots, and what invariants read.
-ghost use Rattle.std.specs.Prelude.{◌≡◌, ℕ, ◌⊎◌, Bool, false, IsTrue, List, [], Some};
+ghost use Rattle.std.specs.Prelude.{◌≡◌, ◌≢◌, ℕ, ◌⊎◌, Bool, false, IsTrue, List, [], Some};
 ghost use Rattle.rp_value.specs.Values.{Val};
 ghost use Rattle.rp_lang.specs.Formulas.{Fo};
 ghost use Rattle.rp_lang.specs.Programs.{Prog};
@@ -31,7 +31,7 @@ pub fn longer_histories()
 {}
 
 /// Consistent snapshots of a valid state: nothing, all that is committed, what a marker has before it, and the committed
-/// part of a later snapshot, also where the transaction that is added or committed then is left out.
+/// part of a snapshot after any label. A snapshot after a label that isn't a commit is one before it.
 pub fn snapshots()
     ensures nothing { (s : State) → IsSnapshot s.calls (commits_of s.txs) (λ c. false) }
     ensures all { (p : Prog) (s : State) → IsValid p s → IsSnapshot s.calls (commits_of s.txs) (old s) }
@@ -39,6 +39,9 @@ pub fn snapshots()
         → IsSnapshot s.calls (commits_of s.txs) (λ c. before s.calls c m) }
     ensures old_parts { (p : Prog) (s new : State) (label : Label) (seen : ℕ → Bool) → IsValid p s → Leads s (step p s label) new
         → IsSnapshot new.calls (commits_of new.txs) seen → IsSnapshot s.calls (commits_of s.txs) (old_part s seen) }
+    ensures earlier { (p : Prog) (s new : State) (label : Label) (seen : ℕ → Bool) → IsValid p s → ((i : ℕ) → label ≢ Commit i)
+        → Leads s (step p s label) new → IsSnapshot new.calls (commits_of new.txs) seen
+        → IsSnapshot s.calls (commits_of s.txs) seen }
 {}
 
 /// A label that neither starts an invocation nor commits nor returns keeps the invariants.

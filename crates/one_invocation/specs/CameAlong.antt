@@ -87,4 +87,5 @@ pub record CameAlong (p : Prog) (s : State) (i : ℕ) (q : Proc) (inv : Invocati
 -- It has come along this trail or further, and has left what its procedure leaves behind that path.
 abbrev pub GoesOn : Prog → State → ℕ → Proc → List Done → Type 0
 GoesOn p s i q trail =
-    (inv : Invocation) × (later : List Done) × CameAlong p s i q inv (later ++ trail) × Leaves (proc_code q) (path_of (later ++ trail)) inv.left
+    (inv : Invocation) × (later : List Done) × CameAlong p s i q inv (later ++ trail)
+    × Leaves (proc_code q) (path_of (later ++ trail)) inv.left

@@ -11,8 +11,8 @@ use Rattle.one_invocation.specs.Trails.{Way}
 use Rattle.one_invocation.specs.Places.{Leaves}
 use Rattle.one_invocation.specs.Goals.{Goal, ToInit, ToInvoke, ToAssert, ToCommit, ToReturn}
 
--- For each invariant: one at the start, one for each procedure, and one for each commit and each return that some path of a
--- procedure leads to. For each assertion: one for each path that leads to it.
+-- For each invariant: one at the start, one for each procedure, and one for each commit and each return that some path of
+-- a procedure leads to. For each assertion: one for each path that leads to it.
 pub data IsGoalOf (p : Prog) : Goal → Type 0 where
   initial : {k : ℕ} {claim : Inv} → At p.invs k claim → IsGoalOf p (ToInit k claim)
   invoked : {n k : ℕ} {q : Proc} {claim : Inv} → At p.procs n q → At p.invs k claim → IsGoalOf p (ToInvoke n q.at k claim)

@@ -36,8 +36,8 @@ pub fn trails_go_on()
     ensures starts { (p : Prog) (s : State) (proc : ℕ) (args : List Val) (new : State) → IsValid p s
         → Leads s (step p s (Invoke proc args)) new
         → (new ≡ s) ⊎ ((q : Proc) × At p.procs proc q × GoesOn p new (length s.invocations) q []) }
-    ensures extends { (p : Prog) (s : State) (i : ℕ) (q : Proc) (inv : Invocation) (trail : List Done) (label : Label) (new : State)
-        → IsValid p s → CameAlong p s i q inv trail → Leaves (proc_code q) (path_of trail) inv.left
+    ensures extends { (p : Prog) (s : State) (i : ℕ) (q : Proc) (inv : Invocation) (trail : List Done) (label : Label)
+        (new : State) → IsValid p s → CameAlong p s i q inv trail → Leaves (proc_code q) (path_of trail) inv.left
         → named label ≡ Some i → Leads s (step p s label) new
         → GoesOn p new i q trail ⊎ ¬ IsRunning new i }
 {}

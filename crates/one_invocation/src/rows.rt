@@ -16,7 +16,8 @@ pub fn goals_of_removes_users()
     ensures count { length (goals removes_users) ≡ 12 }
     ensures names { map name_of (goals removes_users) ≡ names_of_removes_users }
     ensures sixth { slice_get (goals removes_users) 5
-        ≡ Some (ToCommit 1 (Operate 3 (one (Slot 0)) ∷ Take (Holds (Query 0 (one (Slot 0)))) true ∷ Begin ∷ []) (span 226 277) 0 refs) }
+        ≡ Some (ToCommit 1 (Operate 3 (one (Slot 0)) ∷ Take (Holds (Query 0 (one (Slot 0)))) true ∷ Begin ∷ [])
+        (span 226 277) 0 refs) }
 {}
 
 /// The eighteen goals where no user is removed.
