@@ -19,5 +19,6 @@ mod RootCalled
 mod Called
 mod Numbers
 mod TextNumbers
+mod Tables
 mod SlotLaws
 mod Members

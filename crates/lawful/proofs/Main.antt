@@ -15,7 +15,7 @@ use Rattle.rp_lang.specs.Formulas.{Fos, Arms}
 use Rattle.rp_lang.specs.Programs.{Prog}
 use Rattle.rp_lang.specs.Types.{fields_of}
 use Rattle.rp_lang.specs.Typing as typing
-use Rattle.rp_lang.specs.Typing.{Frame, is_typed, are_typed, are_typed_arms, is_range, is_record_term, is_word, arm_cons, are_cases, in_invariant}
+use Rattle.rp_lang.specs.Typing.{Frame, is_typed, are_typed, are_typed_arms, is_range, is_record_term, is_word, arm_cons, are_cases}
 use Rattle.type_rules.specs.declared.kind.Kind.{Kind}
 use Rattle.type_rules.specs.Names.{Name, text_of, param_name, param_type, entry_named}
 use Rattle.type_rules.specs.Kinds.{bool_kind, int_kind, fits, kind_of, is_any, maybe_of}
@@ -197,7 +197,7 @@ ranges : (t : Tables) (g : World t) (bs : List Ty) (vs : Vars) (sc : Scope) (x :
     → is_range_form t.names form ≡ true → unless sc.words (when (is_call_form form) s) ≡ None
     → ty_of t (kind_of t.names (TypeTree.node at form)) ≡ Some of → is_range g.p g.f of ≡ true
 ranges t g bs vs sc x (TypeForm.named y) at s of st may quiet is =
-    g.tied.atom_anywhere g.f y of is (g.tied.atom y of (not_false_ _ may) is) where
+    g.tied.atom y of (not_false_ _ may) is g.f where
       not_false_ : (b : Bool) → not b ≡ true → b ≡ false
       not_false_ true e = absurd cc
       not_false_ false e = refl

@@ -27,7 +27,7 @@ ghost use Rattle.desugaring.specs.Callees.{Vars, vars_of, Called, of_access};
 ghost use Rattle.desugaring.specs.Meanings.{Means, ArmsMean};
 ghost use Rattle.desugaring.specs.Programs.{IsProgramOf};
 ghost use Rattle.lawful.specs.Kept.{Kept, AllKept};
-ghost use Rattle.lawful.specs.Typed.{Tied, Stands, Good, IsCon, IsCall};
+ghost use Rattle.lawful.specs.Typed.{Tied, Stands, Good, IsCon, IsCall, UsesAreTyped};
 
 /// What an expression of a lawful place becomes is typed in the program, where the program has the
 /// tables of the text.
@@ -93,4 +93,10 @@ pub fn calls_are_typed()
         → of_access (tables_of tree) vs x steps (of_entry (names_of tree) x steps (entry_named (names_of tree) (text_of x))) ≡ Some c
         → ((e : Entry) → entry_named (names_of tree) (text_of x) ≡ Some e → is_query e.what ≡ false)
         → IsCall (tables_of tree) p words (entry_named (names_of tree) (text_of x)) x steps c }
+{}
+
+/// The program of a lawful text has the tables of the text, where uses of its queries are typed.
+pub fn tables_are_tied()
+    ensures { (tree : List DeclTree) (p : Prog) → IsProgramOf tree p → (words : ℕ → Bool)
+        → UsesAreTyped tree p words → Tied (tables_of tree) p words }
 {}
