@@ -110,7 +110,7 @@ snapshots x keeps m = record {
 }
   where
     its : Kept x
-    its = kept x keeps.procs m
+    its = kept x keeps.formed m
 
     done : Closed x.old.calls x.old.txs (is_done x.old)
     done = done-closed x.old m.before.formed.history

@@ -94,7 +94,7 @@ module _ (S : Signature) (g : IsSig S) (x : Step) (keeps : IsProgram x.program) 
 
   pub fits-before : (view : ℕ) → FitsMost x.program (meaning_of S x) (record { view = view; calls = old_rel; invs = was_rel; results = old_result_fn }) (plain x.old)
   fits-before view =
-      let its : Kept x = kept x keeps.procs m in
+      let its : Kept x = kept x keeps.formed m in
       part-fits x.old (record { view = view; calls = old_rel; invs = was_rel; results = old_result_fn }) (record {
         calls = its.grows.calls;
         invs = λ i inv a. let w = its.grows.invs i inv a in (w.0, w.1, w.2.proc, w.2.args);

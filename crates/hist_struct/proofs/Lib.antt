@@ -18,3 +18,4 @@ pub mod StepRows
 pub mod TableFacts
 pub mod TableLaws
 pub mod Together
+pub mod ViewLaws

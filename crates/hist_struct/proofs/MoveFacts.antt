@@ -9,12 +9,14 @@ use Rattle.rp_lang.specs.Programs.{Prog}
 use Rattle.crdt_lib.specs.Calls.{Call}
 use Rattle.crdt_lib.specs.Truths.{list_of, values}
 use Rattle.event_machine.specs.Machine.{Invocation, Tx, State, Label, Invoke, Begin, Op, Local, New, Commit, Return, Fail, Check, named, at_invocation, started, is_known}
-use Rattle.event_machine.specs.WellFormed.{At, Committed, opened_by, Inside, ProcsFit, IsWellFormed}
+use Rattle.event_machine.specs.WellFormed.{At, Committed, opened_by, Inside, IsWellFormed}
 use Rattle.event_machine.specs.Growth.{Grows}
 use Rattle.event_machine.proofs.PlaceLemmas.{at-push, at-set, at-one, at-lt}
 use Rattle.event_machine.proofs.ViewLemmas.{marker_call}
 use Rattle.event_machine.proofs.KeptLemmas.{own_call}
 use Rattle.event_machine.proofs.MoveLemmas.{Does, ArgsKnown, step-moves}
+use Rattle.rp_lang.specs.WellFormed.{is_well_formed}
+use Rattle.event_machine.proofs.ProgramFits.{procs-fit}
 use Rattle.event_machine.proofs.GrowthLemmas.{step-grows, grows-itself}
 use Rattle.hist_struct.specs.Steps.{Step, IsStep}
 use Rattle.hist_struct.proofs.SetFacts.{Later}
@@ -103,14 +105,14 @@ kept-same x m e = record {
   later = record { calls = λ c call a. subst (λ (n : State). At n.calls c call) (sym e) a; added = λ c call a k. subst (λ (n : State). At n.calls c call) e a };
 }
 
-pub kept : (x : Step) → ProcsFit x.program → IsStep x → Kept x
-kept x procs m = elim m.moves [
+pub kept : (x : Step) → is_well_formed x.program ≡ true → IsStep x → Kept x
+kept x w m = elim m.moves [
   | inl e ↦ kept-same x m e
   | inr l ↦ elim (step-moves x.program x.old l.0 x.new m.before.formed.history l.1) [
     | inl e ↦ kept-same x m e
     | inr does ↦
         let j = another (named l.0) in
-        let g = step-grows x.program procs x.old l.0 x.new j.0 m.before.formed l.1 j.1 in
+        let g = step-grows x.program (procs-fit x.program w) x.old l.0 x.new j.0 m.before.formed l.1 j.1 in
         record { by = j.0; grows = g; later = record { calls = g.calls; added = not-added x.program x.old l.0 x.new m.before.formed does }; args = args-stand x.program x.old l.0 x.new m.before.formed does }
   ]
 ]

@@ -136,7 +136,7 @@ one-fits p (Some t) v h = and_from (fits p t v) true h refl
 
 module _ (S : Signature) (g : IsSig S) (x : Step) (keeps : IsProgram x.program) (m : IsStep x) where
   its : Kept x
-  its = kept x keeps.procs m
+  its = kept x keeps.formed m
 
   put-grid : (f : ℕ → ℕ → Bool) (rows c n kind k : ℕ) (y : Elem) → slice_get (meaning_of S x).structure.rels (id_rel x.program n kind) ≡ Some (grid_relation f rows x.new.universe)
       → c < rows → k < x.new.universe → y ≡ Point k → f c k ≡ true → Rel (meaning_of S x) (id_rel x.program n kind) (Point c) y

@@ -62,7 +62,7 @@ result-built p inv t n q a e d = go inv.standing refl d
 
 module _ (S : Signature) (g : IsSig S) (x : Step) (keeps : IsProgram x.program) (m : IsStep x) where
   its : Kept x
-  its = kept x keeps.procs m
+  its = kept x keeps.formed m
 
   pub info-at : (i : ℕ) (inv : Invocation) → At x.new.invocations i inv → value_at (meaning_of S x) info_fn (Point i) ≡ Made (info_con x.program inv.proc) (elems_of inv.args)
   info-at i inv a = in-table (λ i. info_elem x.program (slice_get x.new.invocations i)) (length x.new.invocations) i (at-lt x.new.invocations i inv a) ∙ ap (info_elem x.program) a

@@ -40,7 +40,7 @@ module _ (S : Signature) (g : IsSig S) (x : Step) (keeps : IsProgram x.program) 
   before_it = m.before.formed.history
 
   its : Kept x
-  its = kept x keeps.procs m
+  its = kept x keeps.formed m
 
   pub before_orders-met : BeforeOrders (meaning_of S x)
   before_orders-met = record {

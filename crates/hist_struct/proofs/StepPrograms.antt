@@ -1,4 +1,4 @@
--- What a well-formed program says of its procedures and of the operation that opens transactions.
+-- What a well-formed program says of the operation that opens transactions.
 use Rattle.std.proofs.Common.{◌≡◌, List, [], ◌∷◌, true, ap, sym, ◌∙◌}
 use Rattle.std.proofs.lemmas.Bool.{and_parts}
 use Rattle.std.proofs.lemmas.Option.{none-some, same_Some}
@@ -7,12 +7,11 @@ use Rattle.rp_lang.specs.Paths.{is_tx}
 use Rattle.rp_lang.specs.Programs.{Rt, Prog}
 use Rattle.rp_lang.specs.WellFormed.{are_ops, is_well_formed}
 use Rattle.rp_lang.proofs.ProgramFacts.{facts, nothing}
-use Rattle.event_machine.specs.WellFormed.{At, ProcsFit}
-use Rattle.event_machine.proofs.ProgramFits.{procs-fit}
+use Rattle.event_machine.specs.WellFormed.{At}
 
--- what a well-formed program keeps: code fits its places, and `tx` takes no arguments
+-- a well-formed program, in which `tx` takes no arguments
 pub record IsProgram (p : Prog) : Type 0 where
-  pub procs : ProcsFit p
+  pub formed : is_well_formed p ≡ true
   pub tx : (decl : OpDecl) → At p.ops 0 decl → decl.args ≡ []
 
 first-op : (roots : List Rt) (ops : List OpDecl) (decl : OpDecl) → are_ops roots ops ≡ true → At ops 0 decl → is_tx decl ≡ true
@@ -21,6 +20,6 @@ first-op roots (first ∷ ops) decl h a = ap is_tx (sym (same_Some first decl a)
 
 pub program-is : (p : Prog) → is_well_formed p ≡ true → IsProgram p
 program-is p w = record {
-  procs = procs-fit p w;
+  formed = w;
   tx = λ decl a. nothing decl.args (and_parts _ _ (first-op p.roots p.ops decl (facts p w).ops a)).1;
 }

@@ -116,7 +116,7 @@ pub before-fits : (x : Step) (consts : List ℕ) (reads : ℕ) → is_well_forme
     → FitsParts x.program (meaning_of (sig_at x consts reads) x) (before_at view) (plain x.old)
 before-fits x consts reads w m view =
     let k = program-is x.program w in
-    parts-fit x.program (meaning_of (sig_at x consts reads) x) (before_at view) (plain x.old) x.new.universe (kept x k.procs m).grows.universe
+    parts-fit x.program (meaning_of (sig_at x consts reads) x) (before_at view) (plain x.old) x.new.universe (kept x w m).grows.universe
     (fits-before (sig_at x consts reads) (sig-is x.program x.views consts reads) x k m view) (atoms-fit x consts reads)
 
 pub after-fits : (x : Step) (consts : List ℕ) (reads : ℕ) → is_well_formed x.program ≡ true → IsStep x → (view : ℕ)

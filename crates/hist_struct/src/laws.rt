@@ -12,7 +12,7 @@ ghost use Rattle.rp_logic.specs.Truth.{Meaning, AllTrue};
 ghost use Rattle.crdt_enc.specs.FitsParts.{FitsParts};
 ghost use Rattle.hist_struct.specs.Steps.{Step, begins, IsValid, IsStep, Acts, step_of, nothing_yet};
 ghost use Rattle.hist_struct.specs.Structure.{sig_at, meaning_of};
-ghost use Rattle.hist_struct.specs.Snapshots.{before_at, after_at, AreSnapshots};
+ghost use Rattle.hist_struct.specs.Snapshots.{before_at, after_at, AreSnapshots, AreViews};
 ghost use Rattle.hist_struct.specs.Holding.{AreExact, AreMet, axioms};
 ghost use Rattle.hist_struct.specs.Tables.{one_point, two_points, set_relation, pair_relation, table};
 
@@ -29,12 +29,15 @@ pub fn axioms_hold()
         → AllTrue (meaning_of (sig_at x consts reads) x) (axioms x.program (begins x)) }
 {}
 
-/// The structure fits the state before the step, and the state after it; what invariants are assumed at are snapshots.
+/// The structure fits the state before the step, and the state after it; its sets of visible calls are those of the
+/// step, and what invariants are assumed at are snapshots.
 pub fn structures_fit()
     ensures before { (x : Step) (consts : List ℕ) (reads : ℕ) → IsTrue (is_well_formed x.program) → IsStep x → (view : ℕ)
         → FitsParts x.program (meaning_of (sig_at x consts reads) x) (before_at view) (plain x.old) }
     ensures after { (x : Step) (consts : List ℕ) (reads : ℕ) → IsTrue (is_well_formed x.program) → IsStep x → (view : ℕ)
         → FitsParts x.program (meaning_of (sig_at x consts reads) x) (after_at view) (plain x.new) }
+    ensures views { (x : Step) (consts : List ℕ) (reads : ℕ) → IsTrue (is_well_formed x.program) → IsStep x
+        → AreViews x (meaning_of (sig_at x consts reads) x) }
     ensures snapshots { (x : Step) → IsTrue (is_well_formed x.program) → IsStep x → AreSnapshots x }
 {}
 
