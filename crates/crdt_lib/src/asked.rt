@@ -9,21 +9,21 @@ pub enum Found {
 
 /// What a query answers.
 #[derive(Clone, Copy)]
-pub(crate) enum Answer {
+pub enum Answer {
     Truth(bool),
     Value(Found),
 }
 
 /// Of an update and a delete of its key that are concurrent, the one that a map keeps.
 #[derive(Clone, Copy)]
-pub(crate) enum Winner {
+pub enum Winner {
     Update,
     Delete,
 }
 
 /// What a query asks of the calls that count.
 #[derive(Clone, Copy)]
-pub(crate) enum Question {
+pub enum Question {
     AddWins,
     RemoveWins,
     ManyValues,

@@ -15,7 +15,7 @@ pub mod rows;
 mod snapshot;
 mod view;
 
-pub use asked::Found;
+pub use asked::{Answer, Found, Question, Winner};
 pub use atoms::atoms_of;
 pub use call::CallRec;
 pub use history::History;
