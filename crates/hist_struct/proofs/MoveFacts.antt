@@ -100,7 +100,7 @@ pub record Kept (x : Step) : Type 0 where
 kept-same : (x : Step) → IsStep x → x.new ≡ x.old → Kept x
 kept-same x m e = record {
   by = 0;
-  grows = subst (λ n. Grows x.program x.old n 0) (sym e) (grows-itself x.program x.old 0 m.before.formed);
+  grows = subst (λ n. Grows x.program x.old n 0) (sym e) (grows-itself x.program x.old 0 m.before);
   args = λ i inv y a. m.before.formed.known.args_known i y inv (subst (λ (n : State). At n.invocations i inv) e a);
   later = record { calls = λ c call a. subst (λ (n : State). At n.calls c call) (sym e) a; added = λ c call a k. subst (λ (n : State). At n.calls c call) e a };
 }
@@ -112,7 +112,7 @@ kept x w m = elim m.moves [
     | inl e ↦ kept-same x m e
     | inr does ↦
         let j = another (named l.0) in
-        let g = step-grows x.program (procs-fit x.program w) x.old l.0 x.new j.0 m.before.formed l.1 j.1 in
+        let g = step-grows x.program w x.old l.0 x.new j.0 m.before l.1 j.1 in
         record { by = j.0; grows = g; later = record { calls = g.calls; added = not-added x.program x.old l.0 x.new m.before.formed does }; args = args-stand x.program x.old l.0 x.new m.before.formed does }
   ]
 ]

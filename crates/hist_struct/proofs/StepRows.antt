@@ -9,7 +9,7 @@ use Rattle.event_machine.specs.LocalSafety.{IsRunning}
 use Rattle.event_machine.proofs.MoveLemmas.{free, unless-none, running-at}
 use Rattle.event_machine.specs.Runs.{Leads}
 use Rattle.event_machine.specs.WellFormed.{commits_of}
-use Rattle.hist_struct.specs.Steps.{IsValid}
+use Rattle.event_machine.specs.Growth.{IsValid}
 use Rattle.event_machine.proofs.PlaceLemmas.{at-lt, at-one, at-exists}
 use Rattle.event_machine.proofs.KeptLemmas.{step-formed, empty-formed}
 use Rattle.event_machine.proofs.TypedKept.{empty-typed, step-typed}

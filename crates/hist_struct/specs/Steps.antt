@@ -7,8 +7,7 @@ use Rattle.crdt_lib.specs.Snapshots.{bit, IsSnapshot}
 use Rattle.event_machine.specs.Machine.{Running, Invocation, State, Label, empty, listed, view_of, named, step}
 use Rattle.event_machine.specs.Runs.{Leads}
 use Rattle.event_machine.specs.WellFormed.{At, commits_of}
-use Rattle.event_machine.specs.WellFormed.{IsWellFormed}
-use Rattle.event_machine.specs.TypedStates.{IsTyped}
+use Rattle.event_machine.specs.Growth.{IsValid}
 use Rattle.rp_logic.specs.Elements.{Elem}
 
 pub record Step : Type 0 where
@@ -63,11 +62,6 @@ abbrev pub is_read : State → ℕ → ℕ → ℕ → Bool
 is_read s i k c = is_seen s i k c || is_that (slice_get (marks s i) k) c
 
 -- # Steps
-
--- a state as runs of a well-formed program have it: well-formed, and typed
-pub record IsValid (p : Prog) (s : State) : Type 0 where
-  pub formed : IsWellFormed p s
-  pub typed : IsTyped p s
 
 -- nothing moves, or a label is accepted
 abbrev pub Moves : Step → Type 0
