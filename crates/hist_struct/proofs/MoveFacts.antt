@@ -16,7 +16,6 @@ use Rattle.event_machine.proofs.ViewLemmas.{marker_call}
 use Rattle.event_machine.proofs.KeptLemmas.{own_call}
 use Rattle.event_machine.proofs.MoveLemmas.{Does, ArgsKnown, step-moves}
 use Rattle.rp_lang.specs.WellFormed.{is_well_formed}
-use Rattle.event_machine.proofs.ProgramFits.{procs-fit}
 use Rattle.event_machine.proofs.GrowthLemmas.{step-grows, grows-itself}
 use Rattle.hist_struct.specs.Steps.{Step, IsStep}
 use Rattle.hist_struct.proofs.SetFacts.{Later}
