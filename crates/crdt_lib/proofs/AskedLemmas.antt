@@ -1,5 +1,5 @@
 -- What a query of a reading answers, as a value: a register gives what a visible call assigned.
-use Rattle.std.proofs.Common.{◌≡◌, ℕ, zero, suc, ◌+◌, ℤ, Bool, true, false, ◌&&◌, if◌then◌else◌, List, [], ◌∷◌, length, refl, ap, sym, ◌∙◌, slice_get, ◌⊎◌, inl, inr, true≢false}
+use Rattle.std.proofs.Common.{◌≡◌, ℕ, zero, suc, ◌+◌, ℤ, Bool, true, false, if◌then◌else◌, List, [], ◌∷◌, length, refl, ap, sym, ◌∙◌, slice_get, ◌⊎◌, inl, inr}
 use Rattle.std.specs.declared.option.Option.{Option}
 use Rattle.std.specs.declared.option.Option.TheVariants.{None, Some}
 use Rattle.std.proofs.lemmas.Bool.{and_parts}
@@ -15,10 +15,9 @@ use Rattle.rp_lang.specs.declared.query.QueryDecl.{QueryDecl}
 use Rattle.rp_lang.specs.declared.query.QueryKind.{QueryKind}
 use Rattle.crdt_lib.specs.declared.asked.Answer.{Answer}
 use Rattle.crdt_lib.specs.declared.asked.Answer.TheVariants.{Truth, Value}
-use Rattle.crdt_lib.specs.declared.asked.Found.{Found}
 use Rattle.crdt_lib.specs.declared.asked.Found.TheVariants.{Sum, At, Nothing}
 use Rattle.crdt_lib.specs.declared.asked.Question.{Question}
-use Rattle.crdt_lib.specs.declared.asked.Question.TheVariants.{AddWins, RemoveWins, ManyValues, Latest, Total, AtKey, NoQuestion}
+use Rattle.crdt_lib.specs.declared.asked.Question.TheVariants.{AddWins, RemoveWins, ManyValues, Latest, Total, AtKey}
 use Rattle.crdt_lib.specs.Calls.{Call}
 use Rattle.crdt_lib.specs.Counting.{or_this, first_below}
 use Rattle.crdt_lib.specs.Doing.{own_argument, on_root, goes_to_key}

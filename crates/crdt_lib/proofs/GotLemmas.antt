@@ -1,5 +1,5 @@
 -- What a query that gives a value answers: a counter a number, and a register what an assignment at its path holds.
-use Rattle.std.proofs.Common.{◌≡◌, ℕ, zero, suc, ◌+◌, ℤ, Bool, true, false, ◌&&◌, if◌then◌else◌, List, [], ◌∷◌, length, drop, refl, ap, sym, ◌∙◌, subst, arith, slice_get, nat_eq, eqb-true, ◌⊎◌, inl, inr, true≢false}
+use Rattle.std.proofs.Common.{◌≡◌, ℕ, zero, suc, ◌+◌, ℤ, Bool, true, false, if◌then◌else◌, List, [], ◌∷◌, length, drop, refl, ap, sym, ◌∙◌, subst, arith, slice_get, nat_eq, eqb-true, ◌⊎◌, inl, inr, true≢false}
 use Rattle.std.specs.declared.option.Option.{Option}
 use Rattle.std.specs.declared.option.Option.TheVariants.{None, Some}
 use Rattle.std.proofs.lemmas.Bool.{and_parts}
@@ -7,28 +7,26 @@ use Rattle.std.proofs.lemmas.Option.{none-some, same_Some}
 use Rattle.rp_value.specs.declared.tables.Ty.{Ty}
 use Rattle.rp_value.specs.Values as val
 use Rattle.rp_value.specs.Values.{Val, no_val, also_val}
-use Rattle.rp_lang.specs.Crdts.{Cr, SetAw, SetRw, Reg, MvReg, Counter, MapUw, MapDw, Struct}
-use Rattle.rp_lang.specs.Paths.{field_in, held_at, stepped, reached, own_args, root_crdt}
+use Rattle.rp_lang.specs.Crdts.{Cr, Reg, Counter, MapUw, MapDw}
+use Rattle.rp_lang.specs.Paths.{field_in, held_at, reached, own_args, root_crdt}
 use Rattle.rp_lang.specs.Types.{same_ty}
-use Rattle.rp_lang.specs.Programs.{Rt, Prog}
+use Rattle.rp_lang.specs.Programs.{Prog}
 use Rattle.rp_lang.specs.declared.op.OpDecl.{OpDecl}
 use Rattle.rp_lang.specs.declared.op.OpKind.{OpKind}
 use Rattle.rp_lang.specs.declared.op.OpKind.TheVariants.{Tx, Add, Remove, Assign, Increment, Delete}
 use Rattle.rp_lang.specs.declared.op.PathStep.{PathStep}
 use Rattle.rp_lang.specs.declared.op.PathStep.TheVariants.{Field, Key}
 use Rattle.rp_lang.specs.declared.query.QueryDecl.{QueryDecl}
-use Rattle.rp_lang.specs.declared.query.QueryKind.{QueryKind}
 use Rattle.rp_lang.specs.declared.query.QueryKind.TheVariants.{GetReg, GetSum}
 use Rattle.crdt_lib.specs.declared.asked.Answer.{Answer}
-use Rattle.crdt_lib.specs.declared.asked.Answer.TheVariants.{Truth, Value}
-use Rattle.crdt_lib.specs.declared.asked.Found.{Found}
+use Rattle.crdt_lib.specs.declared.asked.Answer.TheVariants.{Value}
 use Rattle.crdt_lib.specs.declared.asked.Found.TheVariants.{Sum, At, Nothing}
 use Rattle.crdt_lib.specs.Calls.{Call}
 use Rattle.crdt_lib.specs.Doing.{same_kind, meets_op, op_is, is_of, on_root, is_field, is_some_key, goes_to_field, goes_to_key, own_argument}
 use Rattle.crdt_lib.specs.Histories.{meets, call_is}
-use Rattle.crdt_lib.specs.Meaning.{among, in_field, at_key, is_older, latest, counter_sum}
-use Rattle.crdt_lib.specs.Queries.{question, at_call, answer_at, held_in, winner_in, ask, answer_to, answer_by, answer_in}
-use Rattle.crdt_lib.specs.Truths.{Reading, or_false, nth_con, found_val, answer_val, asked}
+use Rattle.crdt_lib.specs.Meaning.{among, in_field, at_key, latest, counter_sum}
+use Rattle.crdt_lib.specs.Queries.{question, at_call, answer_at, held_in, winner_in, ask, answer_to, answer_by}
+use Rattle.crdt_lib.specs.Truths.{Reading, or_false, nth_con, answer_val, asked}
 use Rattle.crdt_lib.proofs.AskedLemmas.{first-meets}
 
 none-reached : (path : List PathStep) (end : Cr) → reached None path ≡ Some end → ⊥

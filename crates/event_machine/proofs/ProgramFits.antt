@@ -1,8 +1,6 @@
 -- The code of a well-formed program's procedures fits a place outside of atomic blocks.
 pub use Rattle.rp_lang.proofs.TypeFacts.{each}
-use Rattle.std.proofs.Common.{◌≡◌, ◌≢◌, ℕ, zero, suc, Bool, true, false, not, List, [], ◌∷◌, Option, Some, None, slice_get, nat_lt, refl, sym, ◌∙◌, ap, subst, arith, true≢false, ltb-true}
-use Rattle.std.specs.List.{list_all}
-use Rattle.std.proofs.lemmas.Option.{none-some, same_Some}
+use Rattle.std.proofs.Common.{◌≡◌, ◌≢◌, ℕ, Bool, true, false, not, Option, Some, None, slice_get, nat_lt, refl, sym, subst, arith, true≢false, ltb-true}
 use Rattle.rp_value.specs.declared.tables.AtomType.{AtomType}
 use Rattle.rp_lang.specs.Types.{is_id_type}
 use Rattle.rp_lang.specs.Typing.{Frame}
@@ -13,7 +11,7 @@ use Rattle.rp_lang.specs.Programs.{Prog}
 use Rattle.rp_lang.specs.WellFormed.{at_start, is_procedure, is_well_formed}
 use Rattle.event_machine.specs.Code.{Code, code, codes, code_arms}
 use Rattle.event_machine.specs.Fitting.{names_ids}
-use Rattle.event_machine.specs.WellFormed.{At, Fits, ArmsFit, ProcsFit}
+use Rattle.event_machine.specs.WellFormed.{Fits, ArmsFit, ProcsFit}
 use Rattle.event_machine.proofs.FormLemmas.{both_true}
 
 pub outside : (b : Bool) → not b ≡ true → b ≡ false

@@ -1,13 +1,12 @@
 -- The value of a well typed expression fits its type.
 pub use Rattle.rp_lang.proofs.TypeFacts.{is_data, ordinary-data, same-number, same-type, is-type, FieldsAreData}
-use Rattle.std.proofs.Common.{◌≡◌, ◌==◌, ℕ, ℤ, Bool, true, false, ◌&&◌, if◌then◌else◌, List, [], ◌∷◌, length, Option, Some, None, slice_get, nat_eq, refl, sym, ◌∙◌, ap, subst, arith, eq-eqb, true≢false}
+use Rattle.std.proofs.Common.{◌≡◌, ℕ, ℤ, Bool, true, false, ◌&&◌, if◌then◌else◌, List, [], ◌∷◌, length, Option, Some, None, slice_get, nat_eq, refl, sym, ◌∙◌, ap, subst, arith, eq-eqb, true≢false}
 use Rattle.std.specs.List.{list_all}
 use Rattle.std.proofs.lemmas.Option.{none-some, same_Some}
 use Rattle.rp_value.specs.declared.tables.Ty.{Ty}
 use Rattle.rp_value.specs.declared.tables.Ty.TheVariants as ty
 use Rattle.rp_value.specs.declared.tables.Ty.TheVariants.{Atom, Datatype}
 use Rattle.rp_value.specs.declared.tables.ConDecl.{ConDecl}
-use Rattle.rp_value.specs.declared.tables.TypeTable.{TypeTable}
 use Rattle.rp_value.specs.Values as val
 use Rattle.rp_value.specs.Values.{Val, Vals, no_val, also_val}
 use Rattle.rp_lang.specs.Types as types
@@ -21,7 +20,7 @@ use Rattle.event_machine.specs.Machine.{Invocation, State, at_invocation}
 use Rattle.event_machine.specs.TypedStates.{frame_in, SlotsFit, AreSet}
 use Rattle.event_machine.proofs.FormLemmas.{both_true}
 use Rattle.event_machine.proofs.MoveLemmas.{and-make}
-use Rattle.event_machine.proofs.WiderLemmas.{given-some, is_ty-some}
+use Rattle.event_machine.proofs.WiderLemmas.{given-some}
 
 -- # Expressions
 
