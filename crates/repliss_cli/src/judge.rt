@@ -103,7 +103,11 @@ fn report_on_tree(alloc: Global, text: &Text, ast: &Ast) -> Result<Report, Memor
     ensures { IfOk result (λ report. IsReportOf text.now report) }
 {
     match first_program(alloc, ast) {
-        Ok(Some(program)) => report_on_program(alloc, text, &program),
+        Ok(Some(program)) => {
+            let report = report_on_program(alloc, text, &program);
+            program.let_go();
+            report
+        }
         Ok(None) => Ok(Report::NotYet),
         Err(Memory) => Err(Memory),
     }
@@ -116,7 +120,11 @@ fn report_on_tokens(alloc: Global, text: &Text, tokens: &List<Token>) -> Result<
     ensures { IfOk result (λ report. IsReportOf text.now report) }
 {
     match parse(alloc, text.bytes(), tokens) {
-        Ok(ast) => report_on_tree(alloc, text, &ast),
+        Ok(ast) => {
+            let report = report_on_tree(alloc, text, &ast);
+            ast.let_go();
+            report
+        }
         Err(ParseErr::Syntax { token }) => Ok(Report::Syntax {
             at: place_in(text, tokens[token as usize].span.from),
         }),

@@ -12,6 +12,11 @@ pub struct Ast {
     pub decls: List<Decl>,
 }
 
+impl Ast {
+    /// Lets go of the tree. A crate that calls this doesn't prove again how trees are let go of.
+    pub fn let_go(self) {}
+}
+
 /// A declaration.
 #[derive(Drop)]
 pub struct Decl {

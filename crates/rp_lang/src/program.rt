@@ -28,6 +28,9 @@ pub struct Program {
 impl Program {
     ghost use Rattle.rp_lang.specs.ProgramView.{program_view};
 
+    /// Lets go of the program. A crate that calls this doesn't prove again how programs are let go of.
+    pub fn let_go(self) {}
+
     /// The program of these procedures, where they are over truth values: procedures of `Bool` parameters that branch
     /// and assert, and no data.
     pub fn first_form(alloc: Global, procs: List<ProcDecl>) -> Result<Option<Program>, Memory>

@@ -4,7 +4,7 @@ ghost use Rattle.rp_grammar.specs.Lexed.{Lexed};
 
 use crate::names::{kind_name, symbol_name, word_name};
 use crate::row::Row;
-use rp_ast::print;
+use rp_ast::{Ast, print};
 use rp_lexer::{LexErr, Token, lex, symbol_of, word_of};
 use rp_parser::{ParseErr, parse};
 use rp_value::{List, Memory};
@@ -56,13 +56,22 @@ fn fault_told(alloc: Global, tokens: &List<Token>, fault: ParseErr) -> Result<Ve
     Ok(format!(in alloc; "{name} at {at}\n")?.into_bytes())
 }
 
+/// The printed form of a tree.
+fn printed(alloc: Global, ast: &Ast) -> Result<Vec<u8>, Memory> {
+    Ok(print(alloc, ast)?.as_slice().to_vec(alloc)?)
+}
+
 /// What the parser tells of a text with these tokens: the printed form of its tree, a line a declaration, or
 /// its fault, as `syntax at 9`.
 fn tree_of_tokens(alloc: Global, text: &[u8], tokens: &List<Token>) -> Result<Vec<u8>, Memory>
     requires { Lexed 0 text.now tokens.now }
 {
     match parse(alloc, text, tokens) {
-        Ok(ast) => Ok(print(alloc, &ast)?.as_slice().to_vec(alloc)?),
+        Ok(ast) => {
+            let printed = printed(alloc, &ast);
+            ast.let_go();
+            printed
+        }
         Err(fault) => fault_told(alloc, tokens, fault),
     }
 }
