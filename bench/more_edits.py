@@ -40,10 +40,17 @@ def move(crate, names, into_gate):
         os.rename(*(aside, tried) if into_gate else (tried, aside))
 
 
+# Words of a refusal that tell of a name or a type that is gone, and nothing of the contract.
+EMPTY = r"only because a proof file|expected type Unit|`?Unit \{0\}`? \(expected\)|has no field|that can be named"
+
+
 def outcome_of(crate, name, said):
     """What the run said of a wrong body, in a word or two."""
-    found = re.search(rf"must-fail {crate}/{name}\.edit: ([A-Z ]+|refused)", said)
-    return found[1].strip().lower() if found else "not tried"
+    found = re.search(rf"must-fail {crate}/{name}\.edit: ([A-Z ]+|refused)(.*)", said)
+    if not found:
+        return "not tried"
+    outcome = found[1].strip().lower()
+    return f"{outcome}, for a reason that says little of the contract" if re.search(EMPTY, found[2]) else outcome
 
 
 def known_runs(crate):
@@ -67,7 +74,7 @@ def write_runs(crate, names, said):
         file.write(HEAD)
         for name in sorted(names):
             file.write(f"| `{name}` | {runs.get(name, 'never | ')} |\n")
-    return [it for it in names if outcome_of(crate, it, said) != "refused"]
+    return [it for it in names if not outcome_of(crate, it, said).startswith("refused")]
 
 
 def try_all(crate):
