@@ -40,4 +40,5 @@ mod Slotted
 mod Flows
 mod ProcFlows
 mod Invariants
+mod Within
 mod Members

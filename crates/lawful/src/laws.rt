@@ -9,7 +9,7 @@ ghost use Rattle.rp_grammar.specs.Texts.{IsText};
 ghost use Rattle.rp_lang.specs.Exprs.{Ex};
 ghost use Rattle.rp_lang.specs.Formulas.{Arms};
 ghost use Rattle.rp_lang.specs.Programs.{Inv, Prog};
-ghost use Rattle.rp_lang.specs.WellFormed.{returns_a_value};
+ghost use Rattle.rp_lang.specs.WellFormed.{are_invs, returns_a_value};
 ghost use Rattle.rp_lang.specs.Types.{bool_ty, datatype_of, fields_of};
 ghost use Rattle.rp_lang.specs.Typing.{Frame, are_cases, arm_cons, in_invariant, is_range, is_typed, op_args};
 ghost use Rattle.type_rules.specs.declared.kind.Kind.{Kind as TheKind};
@@ -27,6 +27,7 @@ ghost use Rattle.desugaring.specs.Tables.{Tables, tables_of, con_table, con_numb
 ghost use Rattle.desugaring.specs.Values.{Value};
 ghost use Rattle.desugaring.specs.Callees.{Vars, vars_of, Called, of_access};
 ghost use Rattle.desugaring.specs.Meanings.{Means, ArmsMean};
+ghost use Rattle.desugaring.specs.Limits.{HasProgram};
 ghost use Rattle.desugaring.specs.Parts.{Pointwise};
 ghost use Rattle.desugaring.specs.Programs.{IsProgramOf, procs_from};
 ghost use Rattle.lawful.specs.Kept.{Kept, AllKept, may_speak};
@@ -121,4 +122,10 @@ pub fn values_flow_alike()
 pub fn invariants_are_typed()
     ensures { (bytes : List ℕ) (tree : List DeclTree) → IsText bytes tree → (p : Prog) → IsProgramOf tree p
         → list_all (λ (inv : Inv). is_typed p in_invariant [] inv.body) p.invs ≡ true }
+{}
+
+/// The invariants of a lawful text whose program passes no limit are well formed.
+pub fn invariants_are_well_formed()
+    ensures { (bytes : List ℕ) (tree : List DeclTree) → IsText bytes tree → (p : Prog) → HasProgram tree p
+        → are_invs p ≡ true }
 {}
