@@ -41,4 +41,6 @@ mod Flows
 mod ProcFlows
 mod Invariants
 mod Within
+mod InsideStmts
+mod ProcPlaces
 mod Members

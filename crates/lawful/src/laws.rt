@@ -1,7 +1,7 @@
 //! Laws of the definitions. The functions do nothing; what they ensure is proved.
 
 ghost use Rattle.std.specs.Prelude.{◌≡◌, ℕ, Bool, true, false, nat_eq, nat_lt, List, [], length, map, Option, Some, is_some, slice_get};
-ghost use Rattle.std.specs.List.{IsDistinct, list_all};
+ghost use Rattle.std.specs.List.{AllByRecursion, IsDistinct, list_all};
 ghost use Rattle.rp_span.specs.declared.Span.{Span};
 ghost use Rattle.rp_value.specs.declared.tables.Ty.{Ty};
 ghost use Rattle.rp_grammar.specs.Trees.{Ident, PatternTree, StepTrees, ExprTree, ExprArmTrees, DeclTree};
@@ -18,6 +18,7 @@ ghost use Rattle.type_rules.specs.Kinds.{bool_kind, named_kind};
 ghost use Rattle.type_rules.specs.Accesses.{of_entry};
 ghost use Rattle.type_rules.specs.Typing.{type_of};
 ghost use Rattle.type_rules.specs.Queries.{names_of};
+ghost use Rattle.type_rules.specs.DeclSites.{proc_sites};
 ghost use Rattle.type_rules.specs.Sites.{Scope, Want, Site};
 ghost use Rattle.type_rules.specs.Matches.{pattern_name, pattern_vars, pattern_kinds};
 ghost use Rattle.type_rules.specs.ExprSites.{expr_sites, arm_names, arm_sites};
@@ -29,7 +30,7 @@ ghost use Rattle.desugaring.specs.Callees.{Vars, vars_of, Called, of_access};
 ghost use Rattle.desugaring.specs.Meanings.{Means, ArmsMean};
 ghost use Rattle.desugaring.specs.Limits.{HasProgram};
 ghost use Rattle.desugaring.specs.Parts.{Pointwise};
-ghost use Rattle.desugaring.specs.Programs.{IsProgramOf, procs_from};
+ghost use Rattle.desugaring.specs.Programs.{IsProgramOf, ProcDecl, procs_from};
 ghost use Rattle.lawful.specs.Kept.{Kept, AllKept, may_speak};
 ghost use Rattle.lawful.specs.Slots.{FlowsThrough};
 ghost use Rattle.lawful.specs.Typed.{Tied, Stands, Good, IsCon, IsCall};
@@ -128,4 +129,12 @@ pub fn invariants_are_typed()
 pub fn invariants_are_well_formed()
     ensures { (bytes : List ℕ) (tree : List DeclTree) → IsText bytes tree → (p : Prog) → HasProgram tree p
         → are_invs p ≡ true }
+{}
+
+/// At each place of a procedure of a lawful text no rule is broken, its number fits, and a use is of
+/// a query that doesn't speak of calls.
+pub fn places_are_kept()
+    ensures { (bytes : List ℕ) (tree : List DeclTree) → IsText bytes tree → IsLawful tree
+        → AllByRecursion (λ (d : ProcDecl). AllKept (names_of tree) (may_speak tree) (proc_sites (names_of tree) d.decl d.tree))
+        (procs_from 0 tree) }
 {}
