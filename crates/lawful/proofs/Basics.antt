@@ -7,17 +7,17 @@ use Rattle.std.specs.Option.{option_map}
 use Rattle.rp_span.specs.declared.Span.{Span}
 use Rattle.rp_value.specs.declared.tables.Ty.{Ty}
 use Rattle.rp_value.specs.declared.tables.Ty.TheVariants as ty
-use Rattle.rp_grammar.specs.Trees.{Ident, ExprTree, ExprForm, AccessTree, StepTrees}
+use Rattle.rp_grammar.specs.Trees.{ExprTree}
 use Rattle.rp_lang.specs.Exprs.{Ex}
 use Rattle.rp_lang.specs.Programs.{Prog}
 use Rattle.rp_lang.specs.Typing.{Frame}
 use Rattle.type_rules.specs.declared.kind.Kind.{Kind}
 use Rattle.type_rules.specs.declared.kind.Base.{Base}
 use Rattle.type_rules.specs.declared.kind.Base.TheVariants as base
-use Rattle.type_rules.specs.Names.{Name, Names, same_name, text_of}
-use Rattle.type_rules.specs.Kinds.{same_base, is_any, fits, maybe_of}
-use Rattle.type_rules.specs.Accesses.{Var, find_var, access_kind, of_name}
-use Rattle.type_rules.specs.Typing.{type_of, form_type, asked_inside}
+use Rattle.type_rules.specs.Names.{Name, Names, same_name}
+use Rattle.type_rules.specs.Kinds.{same_base, is_any, fits}
+use Rattle.type_rules.specs.Accesses.{Var, find_var}
+use Rattle.type_rules.specs.Typing.{type_of}
 use Rattle.type_rules.specs.Sites.{Site}
 use Rattle.type_rules.specs.Rules.{when}
 use Rattle.desugaring.specs.Appearances.{same_kind}
@@ -25,6 +25,7 @@ use Rattle.desugaring.specs.Tables.{Tables, ty_of, datatype_number}
 use Rattle.desugaring.specs.Callees.{Stand, stand, Vars, vars_of, stand_named}
 use Rattle.lawful.specs.Kept.{AllKept}
 use Rattle.lawful.specs.Typed.{IsTerm, Sees, nothing, another}
+use Rattle.lawful.proofs.Alike.{Alike, alike_type}
 
 -- # Tests
 
@@ -109,40 +110,13 @@ look t p f bs vs ss x nothing = Looks.nowhere
 look t p f bs vs ss x (another {name} {kind} {set} {fixed} {known = meant} is others) =
     pick t p f bs name kind set fixed meant _ _ _ (same_name name x) is (look t p f bs _ _ x others)
 
--- the access has one type and one list of arguments
-same_access : (t : Tables) (p : Prog) (f : Frame) (bs : List Ty) (n : Names) (x : Ident) (steps : StepTrees) (o : Option Var) (s : Option (Stand Ex)) (v : Option Var)
-    → Looks t p f bs o s v → access_kind n (of_name n x steps o) ≡ access_kind n (of_name n x steps v)
-same_access t p f bs n x steps o s v Looks.nowhere = refl
-same_access t p f bs n x StepTrees.no_steps o s v (Looks.there is) = refl
-same_access t p f bs n x (StepTrees.more_steps step steps) o s v (Looks.there is) = refl
+sees_alike : (t : Tables) (p : Prog) (f : Frame) (bs : List Ty) (vs : List Var) (ss : Vars) → Sees t p f bs vs ss → Alike vs ss
+sees_alike t p f bs vs ss nothing = Alike.nothing
+sees_alike t p f bs vs ss (another is others) = Alike.another (sees_alike t p f bs _ _ others)
 
-mutual
-  pub same_type : (t : Tables) (p : Prog) (f : Frame) (bs : List Ty) (n : Names) (vs : List Var) (ss : Vars) → Sees t p f bs vs ss
-      → (asked : Option Kind) (e : ExprTree) → type_of n vs asked e ≡ type_of n (vars_of ss) asked e
-  same_type t p f bs n vs ss sees asked (ExprTree.node at form) = same_form t p f bs n vs ss sees asked form
-
-  same_form : (t : Tables) (p : Prog) (f : Frame) (bs : List Ty) (n : Names) (vs : List Var) (ss : Vars) → Sees t p f bs vs ss
-      → (asked : Option Kind) (form : ExprForm) → form_type n vs asked form ≡ form_type n (vars_of ss) asked form
-  same_form t p f bs n vs ss sees asked (ExprForm.some_of e) = ap maybe_of (same_type t p f bs n vs ss sees (asked_inside asked) e)
-  same_form t p f bs n vs ss sees asked (ExprForm.access (AccessTree.path x steps args)) =
-      same_access t p f bs n x steps _ _ _ (look t p f bs vs ss (text_of x) sees)
-  same_form t p f bs n vs ss sees asked (ExprForm.implies a b) = refl
-  same_form t p f bs n vs ss sees asked (ExprForm.or es) = refl
-  same_form t p f bs n vs ss sees asked (ExprForm.and es) = refl
-  same_form t p f bs n vs ss sees asked (ExprForm.not e) = refl
-  same_form t p f bs n vs ss sees asked (ExprForm.forall q e) = refl
-  same_form t p f bs n vs ss sees asked (ExprForm.exists q e) = refl
-  same_form t p f bs n vs ss sees asked (ExprForm.compare c a b) = refl
-  same_form t p f bs n vs ss sees asked (ExprForm.plus a b) = refl
-  same_form t p f bs n vs ss sees asked (ExprForm.minus a b) = refl
-  same_form t p f bs n vs ss sees asked (ExprForm.int i) = refl
-  same_form t p f bs n vs ss sees asked (ExprForm.str bytes) = refl
-  same_form t p f bs n vs ss sees asked (ExprForm.truth b) = refl
-  same_form t p f bs n vs ss sees asked ExprForm.none_word = refl
-  same_form t p f bs n vs ss sees asked ExprForm.unreturned = refl
-  same_form t p f bs n vs ss sees asked ExprForm.tx = refl
-  same_form t p f bs n vs ss sees asked (ExprForm.call w es) = refl
-  same_form t p f bs n vs ss sees asked (ExprForm.match e arms) = refl
+pub same_type : (t : Tables) (p : Prog) (f : Frame) (bs : List Ty) (n : Names) (vs : List Var) (ss : Vars) → Sees t p f bs vs ss
+    → (asked : Option Kind) (e : ExprTree) → type_of n vs asked e ≡ type_of n (vars_of ss) asked e
+same_type t p f bs n vs ss sees asked e = alike_type n vs ss (sees_alike t p f bs vs ss sees) asked e
 
 -- # Lawful places
 

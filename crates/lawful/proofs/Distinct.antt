@@ -73,7 +73,7 @@ distinct_kept e p (x ∷ xs) d =
       by_test e p x xs true here rest = IsDistinct-cons e x (filter p xs) here rest
       by_test e p x xs false here rest = rest
 
-all_changed : {X : Type 0} (P Q : X → Type 0) (xs : List X) → ((x : X) → P x → Q x) → AllByRecursion P xs → AllByRecursion Q xs
+pub all_changed : {X : Type 0} (P Q : X → Type 0) (xs : List X) → ((x : X) → P x → Q x) → AllByRecursion P xs → AllByRecursion Q xs
 all_changed P Q [] f all = tt
 all_changed P Q (x ∷ xs) f all = (f x all.0, all_changed P Q xs f all.1)
 

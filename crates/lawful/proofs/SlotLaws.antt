@@ -1,13 +1,13 @@
 -- The steps of the flow of values, on both sides.
 use Rattle.std.proofs.Common.{◌≡◌, ℕ, Bool, true, false, List, [], ◌∷◌, ◌++◌, map, length, take, Option, Some, None, subst, sym, cond}
-use Rattle.std.proofs.lemmas.Bool.{and_parts, or_parts}
+use Rattle.std.proofs.lemmas.Bool.{and_parts}
 use Rattle.rp_lang.specs.Exprs.{Slot, Ex}
 use Rattle.type_rules.specs.Names.{Name, same_name}
 use Rattle.type_rules.specs.Accesses.{Var}
-use Rattle.type_rules.specs.Flow.{Sight, give, with_value, both, join, dead}
+use Rattle.type_rules.specs.Flow.{give, with_value, both}
 use Rattle.desugaring.specs.Callees.{Vars, Stand, stand, stand_named}
 use Rattle.desugaring.specs.Statements.{slot_in}
-use Rattle.lawful.specs.Slots.{InSlots, nothing, another, Flows}
+use Rattle.lawful.specs.Slots.{InSlots, nothing, another}
 use Rattle.lawful.proofs.Forms.{one}
 
 abbrev pub Grows : (ℕ → Bool) → (ℕ → Bool) → Type 0
@@ -19,7 +19,7 @@ slots_more set more_ fixed vs ss grows (another {slot = slot} has no_more rest) 
     another (λ h. grows slot (has h)) no_more (slots_more set more_ fixed _ _ grows rest)
 
 -- an assignment: the variable's slot is set
-abbrev IsSlotOf : Option (Stand Ex) → ℕ → Type 0
+abbrev pub IsSlotOf : Option (Stand Ex) → ℕ → Type 0
 IsSlotOf None s = ⊥
 IsSlotOf (Some st) s = slot_in st.known ≡ Some s
 
@@ -51,14 +51,3 @@ slots_dead set all fixed vs ss every (another {slot = slot} has no_more rest) = 
 pub slots_leave : (set fixed : ℕ → Bool) (hs : List Var) (ss own : Vars) → InSlots set fixed hs (ss ++ own) → InSlots set fixed (take (length ss) hs) ss
 slots_leave set fixed hs [] own slots = nothing
 slots_leave set fixed hs (x ∷ ss) own (another has no_more rest) = another has no_more (slots_leave set fixed _ ss own rest)
-
--- branches of an `if`: what both set
-pub flows_join : (left right met fixed : ℕ → Bool) (a b : Sight) (ss : Vars) → ((s : ℕ) → left s ≡ true → right s ≡ true → met s ≡ true)
-    → Flows left fixed a ss → Flows right fixed b ss → Flows met fixed (join a b) ss
-flows_join left right met fixed a b ss meet one_ other = record {
-  slots = slots_both left right met fixed a.vars b.vars ss meet one_.slots other.slots;
-  dead = λ none s. let parts = or_parts _ _ none in meet s (one_.dead parts.0 s) (other.dead parts.1 s);
-}
-
-pub flows_dead : (set all fixed : ℕ → Bool) (g : Sight) (ss : Vars) → ((s : ℕ) → all s ≡ true) → Flows set fixed g ss → Flows all fixed (dead g) ss
-flows_dead set all fixed g ss every flows = record { slots = slots_dead set all fixed g.vars ss every flows.slots; dead = λ none. every }

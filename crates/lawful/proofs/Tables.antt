@@ -1,6 +1,9 @@
--- The program of a lawful text has its tables, where uses of queries are typed.
+-- The program of a lawful text has its tables.
 use Rattle.std.proofs.Common.{◌≡◌, ℕ, Bool, true, false, List, ◌∷◌, Option, Some, None, refl, subst, sym, ◌∙◌}
 use Rattle.rp_grammar.specs.Trees.{Ident, StepTrees, DeclTree}
+use Rattle.rp_grammar.specs.Texts.{IsText}
+use Rattle.rp_ast.proofs.Formed.{FormedDecls}
+use Rattle.rp_ast.proofs.BackBytes.{Lexable}
 use Rattle.rp_lang.specs.Exprs.{Ex}
 use Rattle.rp_lang.specs.Programs.{Prog}
 use Rattle.type_rules.specs.Names.{Entry, text_of, entry_named}
@@ -12,7 +15,8 @@ use Rattle.desugaring.specs.Appearances.{kinds_from}
 use Rattle.desugaring.specs.Tables.{tables_of}
 use Rattle.desugaring.specs.Callees.{Vars, Called, of_access}
 use Rattle.desugaring.specs.Programs.{IsProgramOf}
-use Rattle.lawful.specs.Typed.{IsCall, Tied, UsesAreTyped}
+use Rattle.lawful.specs.Kept.{may_speak}
+use Rattle.lawful.specs.Typed.{IsCall, Tied}
 use Rattle.lawful.proofs.Forms.{one}
 use Rattle.lawful.proofs.Cons.{con_is, arm_is, arm_many_is}
 use Rattle.lawful.proofs.Blocks.{kinds_differ}
@@ -21,29 +25,32 @@ use Rattle.lawful.proofs.Places.{cases_differ}
 use Rattle.lawful.proofs.Bools.{BoolFirst, bool_is, bools_are, tx_is}
 use Rattle.lawful.proofs.Atoms.{atom_is}
 use Rattle.lawful.proofs.Called.{call_is}
+use Rattle.lawful.proofs.UsedQueries.{query_called}
+use Rattle.lawful.proofs.Texts.{formed}
 
-either_call : (tree : List DeclTree) (p : Prog) → IsProgramOf tree p → (words : ℕ → Bool) → UsesAreTyped tree p words
+by_entry : (tree : List DeclTree) (p : Prog) → IsProgramOf tree p → FormedDecls Lexable tree
     → (vs : Vars) (x : Ident) (steps : StepTrees) (c : Called Ex) (o : Option Entry) → entry_named (names_of tree) (text_of x) ≡ o
-    → of_access (tables_of tree) vs x steps (of_entry (names_of tree) x steps (entry_named (names_of tree) (text_of x))) ≡ Some c
-    → IsCall (tables_of tree) p words (entry_named (names_of tree) (text_of x)) x steps c
-either_call tree p is words uses vs x steps c None found e = call_is tree p is words vs x steps c e (λ entry h. absurd (no_entry entry (sym found ∙ h))) where
-  no_entry : (entry : Entry) → None ≡ Some entry → ⊥
-  no_entry entry e = absurd cc
-either_call tree p is words uses vs x steps c (Some entry) found e = by_query tree p is words uses vs x steps c entry (is_query entry.what) refl found e where
-  by_query : (tree : List DeclTree) (p : Prog) → IsProgramOf tree p → (words : ℕ → Bool) → UsesAreTyped tree p words
+    → of_access (tables_of tree) vs x steps (of_entry (names_of tree) x steps o) ≡ Some c
+    → IsCall (tables_of tree) p (may_speak tree) o x steps c
+by_entry tree p is formed vs x steps c None found e = absurd cc
+by_entry tree p is formed vs x steps c (Some entry) found e = by_query tree p is formed vs x steps c entry (is_query entry.what) refl found e where
+  by_query : (tree : List DeclTree) (p : Prog) → IsProgramOf tree p → FormedDecls Lexable tree
       → (vs : Vars) (x : Ident) (steps : StepTrees) (c : Called Ex) (entry : Entry) (query : Bool) → is_query entry.what ≡ query
       → entry_named (names_of tree) (text_of x) ≡ Some entry
-      → of_access (tables_of tree) vs x steps (of_entry (names_of tree) x steps (entry_named (names_of tree) (text_of x))) ≡ Some c
-      → IsCall (tables_of tree) p words (entry_named (names_of tree) (text_of x)) x steps c
-  by_query tree p is words uses vs x steps c entry true query found e = uses vs x steps c entry found query e
-  by_query tree p is words uses vs x steps c entry false query found e =
-      call_is tree p is words vs x steps c e (λ other h. subst (λ z. is_query z.what ≡ false) (one (sym found ∙ h)) query)
+      → of_access (tables_of tree) vs x steps (of_entry (names_of tree) x steps (Some entry)) ≡ Some c
+      → IsCall (tables_of tree) p (may_speak tree) (Some entry) x steps c
+  by_query tree p is formed vs x steps c entry true query found e = query_called tree p is.0 formed vs x steps c entry found query e
+  by_query tree p is formed vs x steps c entry false query found e =
+      subst (λ o. IsCall (tables_of tree) p (may_speak tree) o x steps c) found
+      (call_is tree p is (may_speak tree) vs x steps c
+      (subst (λ o. of_access (tables_of tree) vs x steps (of_entry (names_of tree) x steps o) ≡ Some c) (sym found) e)
+      (λ other h. subst (λ z. is_query z.what ≡ false) (one (sym found ∙ h)) query))
 
 begins : (tree : List DeclTree) → BoolFirst (tables_of tree)
 begins tree = (kinds_from (names_of tree) 0 0 tree, refl)
 
-pub tied : (tree : List DeclTree) (p : Prog) → IsProgramOf tree p → (words : ℕ → Bool) → UsesAreTyped tree p words → Tied (tables_of tree) p words
-tied tree p is words uses =
+pub tied : (bytes : List ℕ) (tree : List DeclTree) → IsText bytes tree → (p : Prog) → IsProgramOf tree p → Tied (tables_of tree) p (may_speak tree)
+tied bytes tree text p is =
     let t = tables_of tree in
     let bools = bools_are t p is.1.cons (begins tree) in
     let marker = tx_is t p.ops is.1.ops in
@@ -59,6 +66,6 @@ tied tree p is words uses =
       tx = marker.0;
       tx_args = marker.1;
       atom = atom_is t p is.1.types;
-      cases = cases_are t p words is.1.cons is.1.types (kinds_differ (bool_kind ∷ kinds_from (names_of tree) 0 0 tree)) (cases_differ tree is.0);
-      call = λ vs x steps c e. either_call tree p is words uses vs x steps c (entry_named (names_of tree) (text_of x)) refl e;
+      cases = cases_are t p (may_speak tree) is.1.cons is.1.types (kinds_differ (bool_kind ∷ kinds_from (names_of tree) 0 0 tree)) (cases_differ tree is.0);
+      call = λ vs x steps c e. by_entry tree p is (formed bytes tree text) vs x steps c (entry_named (names_of tree) (text_of x)) refl e;
     }

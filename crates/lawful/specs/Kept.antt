@@ -1,10 +1,12 @@
 -- Places at which no rule is broken, as the proof about expressions needs them.
-use Rattle.std.specs.Prelude.{◌≡◌, ℕ, Bool, true, not, ◌||◌, List, [], ◌∷◌, None}
-use Rattle.rp_grammar.specs.Trees.{ExprTree, ExprForm}
+use Rattle.std.specs.Prelude.{◌≡◌, ℕ, zero, suc, ◌+◌, Bool, true, not, ◌||◌, List, [], ◌∷◌, None}
+use Rattle.rp_grammar.specs.Trees.{ExprTree, ExprForm, DeclTree}
 use Rattle.rp_lang.specs.Typing.{is_word}
 use Rattle.type_rules.specs.Names.{Names}
 use Rattle.type_rules.specs.Accesses.{Access, access_of}
+use Rattle.type_rules.specs.Queries.{names_of}
 use Rattle.type_rules.specs.Sites.{Site}
+use Rattle.type_rules.specs.TextSites.{is_number_of, used_from}
 use Rattle.type_rules.specs.Rules.{rule03, rule04, rule08, rule09, rule10, rule12, rule13, rule14, rule15, rule16, rule18, rule21, rule22, rule23}
 
 -- a fact of texts: a number is at most 2^63 - 1 in absolute value
@@ -24,6 +26,16 @@ uses_quietly words speaks _ = true
 abbrev pub is_quiet : Names → (ℕ → Bool) → Site → Bool
 is_quiet n words (Site.place sc w (ExprTree.node at (ExprForm.access a))) = uses_quietly words sc.words (access_of n sc.vars a)
 is_quiet n words _ = true
+
+-- what the procedures behind the declaration at a place use, where the first of these declarations has number k
+abbrev pub uses_behind : Names → ℕ → List DeclTree → ℕ → List ℕ
+uses_behind n k [] i = []
+uses_behind n k (d ∷ ds) zero = used_from n (k + 1) ds
+uses_behind n k (d ∷ ds) (suc i) = uses_behind n (k + 1) ds i
+
+-- calls may be spoken of in the query of that number: no procedure uses it
+abbrev pub may_speak : List DeclTree → ℕ → Bool
+may_speak tree k = not (is_number_of k (uses_behind (names_of tree) 0 tree k))
 
 pub record Kept (n : Names) (words : ℕ → Bool) (s : Site) : Type 0 where
   pub t03 : rule03 n s ≡ None

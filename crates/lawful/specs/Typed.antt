@@ -18,19 +18,18 @@ use Rattle.type_rules.specs.ExprSites.{expr_sites, asks, entry_way}
 use Rattle.type_rules.specs.DeclSites.{scope_for}
 use Rattle.rp_grammar.specs.Trees.{PatternTree}
 use Rattle.desugaring.specs.Parts.{each}
-use Rattle.desugaring.specs.Tables.{Tables, tables_of, ty_of, con_number, arm_number}
+use Rattle.desugaring.specs.Tables.{Tables, ty_of, con_number, arm_number}
 use Rattle.desugaring.specs.Values.{Value, term, formula}
 use Rattle.desugaring.specs.Callees.{stand, Vars, Callee, Called, variable, constructor, use_of, procedure, outcome, operation, question, value, of_access}
 use Rattle.rp_span.specs.declared.Span.{Span}
-use Rattle.rp_grammar.specs.Trees.{ExprArmTrees, DeclTree}
+use Rattle.rp_grammar.specs.Trees.{ExprArmTrees}
 use Rattle.rp_lang.specs.Formulas.{Arms}
 use Rattle.rp_lang.specs.Typing.{is_range, are_cases, arm_cons}
 use Rattle.type_rules.specs.Names.{type_named, type_number}
 use Rattle.type_rules.specs.Kinds.{named_kind}
 use Rattle.type_rules.specs.Sites.{Site}
 use Rattle.type_rules.specs.ExprSites.{arm_names, arm_sites}
-use Rattle.type_rules.specs.Queries.{names_of}
-use Rattle.type_rules.specs.Rules.{is_query, is_datatype, is_datatype_kind}
+use Rattle.type_rules.specs.Rules.{is_datatype, is_datatype_kind}
 use Rattle.desugaring.specs.Meanings.{ArmsMean}
 use Rattle.lawful.specs.Kept.{Kept, AllKept}
 
@@ -142,13 +141,6 @@ pub record Tied (t : Tables) (p : Prog) (words : ℕ → Bool) : Type 0 where
   pub call : (vs : Vars) (x : Ident) (steps : StepTrees) (c : Called Ex)
       → of_access t vs x steps (of_entry t.names x steps (entry_named t.names (text_of x))) ≡ Some c
       → IsCall t p words (entry_named t.names (text_of x)) x steps c
-
--- uses of the queries of a text are typed, as all other calls are
-abbrev pub UsesAreTyped : List DeclTree → Prog → (ℕ → Bool) → Type 0
-UsesAreTyped tree p words = (vs : Vars) (x : Ident) (steps : StepTrees) (c : Called Ex) (e : Entry) → entry_named (names_of tree) (text_of x) ≡ Some e
-    → is_query e.what ≡ true
-    → of_access (tables_of tree) vs x steps (of_entry (names_of tree) x steps (entry_named (names_of tree) (text_of x))) ≡ Some c
-    → IsCall (tables_of tree) p words (entry_named (names_of tree) (text_of x)) x steps c
 
 -- # The theorem
 

@@ -1,21 +1,24 @@
 //! Laws of the definitions. The functions do nothing; what they ensure is proved.
 
 ghost use Rattle.std.specs.Prelude.{◌≡◌, ℕ, Bool, true, false, nat_eq, nat_lt, List, [], length, map, Option, Some, is_some, slice_get};
-ghost use Rattle.std.specs.List.{IsDistinct};
+ghost use Rattle.std.specs.List.{AllByRecursion, IsDistinct, list_all};
 ghost use Rattle.rp_span.specs.declared.Span.{Span};
 ghost use Rattle.rp_value.specs.declared.tables.Ty.{Ty};
 ghost use Rattle.rp_grammar.specs.Trees.{Ident, PatternTree, StepTrees, ExprTree, ExprArmTrees, DeclTree};
+ghost use Rattle.rp_grammar.specs.Texts.{IsText};
 ghost use Rattle.rp_lang.specs.Exprs.{Ex};
 ghost use Rattle.rp_lang.specs.Formulas.{Arms};
-ghost use Rattle.rp_lang.specs.Programs.{Prog};
+ghost use Rattle.rp_lang.specs.Programs.{Inv, Prog};
+ghost use Rattle.rp_lang.specs.WellFormed.{are_invs, returns_a_value};
 ghost use Rattle.rp_lang.specs.Types.{bool_ty, datatype_of, fields_of};
-ghost use Rattle.rp_lang.specs.Typing.{Frame, are_cases, arm_cons, is_range, op_args};
+ghost use Rattle.rp_lang.specs.Typing.{Frame, are_cases, arm_cons, in_invariant, is_range, is_typed, op_args};
 ghost use Rattle.type_rules.specs.declared.kind.Kind.{Kind as TheKind};
 ghost use Rattle.type_rules.specs.Names.{Name, Entry, same_name, text_of, type_named, type_number, entry_named};
 ghost use Rattle.type_rules.specs.Kinds.{bool_kind, named_kind};
 ghost use Rattle.type_rules.specs.Accesses.{of_entry};
 ghost use Rattle.type_rules.specs.Typing.{type_of};
 ghost use Rattle.type_rules.specs.Queries.{names_of};
+ghost use Rattle.type_rules.specs.DeclSites.{proc_sites};
 ghost use Rattle.type_rules.specs.Sites.{Scope, Want, Site};
 ghost use Rattle.type_rules.specs.Matches.{pattern_name, pattern_vars, pattern_kinds};
 ghost use Rattle.type_rules.specs.ExprSites.{expr_sites, arm_names, arm_sites};
@@ -25,9 +28,12 @@ ghost use Rattle.desugaring.specs.Tables.{Tables, tables_of, con_table, con_numb
 ghost use Rattle.desugaring.specs.Values.{Value};
 ghost use Rattle.desugaring.specs.Callees.{Vars, vars_of, Called, of_access};
 ghost use Rattle.desugaring.specs.Meanings.{Means, ArmsMean};
-ghost use Rattle.desugaring.specs.Programs.{IsProgramOf};
-ghost use Rattle.lawful.specs.Kept.{Kept, AllKept};
-ghost use Rattle.lawful.specs.Typed.{Tied, Stands, Good, IsCon, IsCall, UsesAreTyped};
+ghost use Rattle.desugaring.specs.Limits.{HasProgram};
+ghost use Rattle.desugaring.specs.Parts.{Pointwise};
+ghost use Rattle.desugaring.specs.Programs.{IsProgramOf, ProcDecl, procs_from};
+ghost use Rattle.lawful.specs.Kept.{Kept, AllKept, may_speak};
+ghost use Rattle.lawful.specs.Slots.{FlowsThrough};
+ghost use Rattle.lawful.specs.Typed.{Tied, Stands, Good, IsCon, IsCall};
 
 /// What an expression of a lawful place becomes is typed in the program, where the program has the
 /// tables of the text.
@@ -95,8 +101,40 @@ pub fn calls_are_typed()
         → IsCall (tables_of tree) p words (entry_named (names_of tree) (text_of x)) x steps c }
 {}
 
-/// The program of a lawful text has the tables of the text, where uses of its queries are typed.
+/// The program of a lawful text has the tables of the text: what an access calls is typed as the
+/// rules ask for it, uses of the text's own queries too.
 pub fn tables_are_tied()
-    ensures { (tree : List DeclTree) (p : Prog) → IsProgramOf tree p → (words : ℕ → Bool)
-        → UsesAreTyped tree p words → Tied (tables_of tree) p words }
+    ensures { (bytes : List ℕ) (tree : List DeclTree) → IsText bytes tree → (p : Prog) → IsProgramOf tree p
+        → Tied (tables_of tree) p (may_speak tree) }
+{}
+
+/// In the program of a lawful text every procedure with a result returns on every path.
+pub fn results_are_returned()
+    ensures { (tree : List DeclTree) (p : Prog) → IsProgramOf tree p → list_all returns_a_value p.procs ≡ true }
+{}
+
+/// Where a variable has a value on every path through a procedure, its slot is set on every path.
+pub fn values_flow_alike()
+    ensures { (bytes : List ℕ) (tree : List DeclTree) → IsText bytes tree → (p : Prog) → IsProgramOf tree p
+        → Pointwise (FlowsThrough (names_of tree)) (procs_from 0 tree) p.procs }
+{}
+
+/// The invariants of a lawful text are typed in its program.
+pub fn invariants_are_typed()
+    ensures { (bytes : List ℕ) (tree : List DeclTree) → IsText bytes tree → (p : Prog) → IsProgramOf tree p
+        → list_all (λ (inv : Inv). is_typed p in_invariant [] inv.body) p.invs ≡ true }
+{}
+
+/// The invariants of a lawful text whose program passes no limit are well formed.
+pub fn invariants_are_well_formed()
+    ensures { (bytes : List ℕ) (tree : List DeclTree) → IsText bytes tree → (p : Prog) → HasProgram tree p
+        → are_invs p ≡ true }
+{}
+
+/// At each place of a procedure of a lawful text no rule is broken, its number fits, and a use is of
+/// a query that doesn't speak of calls.
+pub fn places_are_kept()
+    ensures { (bytes : List ℕ) (tree : List DeclTree) → IsText bytes tree → IsLawful tree
+        → AllByRecursion (λ (d : ProcDecl). AllKept (names_of tree) (may_speak tree) (proc_sites (names_of tree) d.decl d.tree))
+        (procs_from 0 tree) }
 {}
