@@ -1,5 +1,5 @@
 -- The elements of a type's sort are those of its values.
-use Rattle.std.proofs.Common.{◌≡◌, ℕ, zero, suc, ◌+◌, ◌<◌, ◌≤◌, true, false, List, [], ◌∷◌, ◌++◌, length, map, Option, Some, None, slice_get, nat_eq, nat_lt, refl, sym, ap, ◌∙◌, subst, eqb-true, eq-eqb, ltb-true, arith}
+use Rattle.std.proofs.Common.{◌≡◌, ℕ, zero, suc, ◌+◌, ◌<◌, ◌≤◌, true, false, List, [], ◌∷◌, ◌++◌, length, map, Option, Some, None, slice_get, refl, sym, ap, ◌∙◌, eqb-true, eq-eqb, ltb-true, arith}
 use Rattle.std.proofs.lemmas.Bool.{and_parts, and_from}
 use Rattle.std.proofs.lemmas.Option.{none-some}
 use Rattle.rp_value.specs.declared.tables.Ty.{Ty}
@@ -16,18 +16,16 @@ use Rattle.crdt_lib.specs.Fitting as fitting
 use Rattle.crdt_lib.specs.Fitting.{fits, fields_fit, cons_to}
 use Rattle.event_machine.specs.WellFormed.{At}
 use Rattle.event_machine.proofs.PlaceLemmas.{at-exists}
-use Rattle.rp_logic.specs.declared.sort.LogicCon.{LogicCon}
-use Rattle.rp_logic.specs.Signatures.{fields_of, is_plain, is_int, is_str, is_con_of, listed}
+use Rattle.rp_logic.specs.Signatures.{fields_of, is_plain, is_int, is_str, is_con_of}
 use Rattle.rp_logic.specs.Elements.{Elem, Elems, Point, Whole, Text, Made, no_elem, also_elem}
 use Rattle.rp_logic.specs.Structures.{is_elem, are_elems}
 use Rattle.rp_logic.proofs.SortLaws.{no}
-use Rattle.rp_symbols.specs.Numbers.{atom_sort, int_sort, str_sort, data_sort, op_sort, info_sort, outcome_sort}
-use Rattle.rp_symbols.specs.Signatures.{sort_of, sorts_of, con_of, con_decls, result_list}
+use Rattle.rp_symbols.specs.Numbers.{int_sort, str_sort, data_sort, op_sort, info_sort, outcome_sort}
+use Rattle.rp_symbols.specs.Signatures.{sort_of, con_of, con_decls, result_list}
 use Rattle.rp_symbols.proofs.Stand.{ints-stand, strings-stand, datatypes-stand, own-stand}
 use Rattle.crdt_enc.specs.Elements.{elem_of, elems_in}
-use Rattle.crdt_enc.specs.FitsParts.{Is}
 use Rattle.hist_struct.specs.Steps.{Step}
-use Rattle.hist_struct.specs.Structure.{sig_at, structure_of, meaning_of}
+use Rattle.hist_struct.specs.Structure.{sig_at, structure_of}
 use Rattle.hist_struct.proofs.AtomLaws.{High, high-both, high-map, high-free, all-high, plain-at, free-at}
 
 -- # The constructors of a datatype's sort are its own

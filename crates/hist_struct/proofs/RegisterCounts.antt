@@ -1,5 +1,5 @@
 -- At a stage the condition on registers says of the calls that count what the last assign is.
-use Rattle.std.proofs.Common.{◌≡◌, ◌↔◌, ℕ, zero, suc, ◌<◌, Bool, true, false, ◌&&◌, List, [], ◌∷◌, ◌++◌, length, Option, Some, None, slice_get, refl, sym, ap, ◌∙◌, subst, true≢false}
+use Rattle.std.proofs.Common.{◌≡◌, ◌↔◌, ℕ, suc, ◌<◌, Bool, true, false, ◌&&◌, List, [], ◌∷◌, length, Option, Some, None, slice_get, refl, sym, ap, ◌∙◌, true≢false}
 use Rattle.std.proofs.lemmas.Bool.{and_parts, and_from, eqb-false, ne_eqb}
 use Rattle.std.proofs.lemmas.Option.{none-some, same_Some}
 use Rattle.rp_value.specs.Values.{Val}
@@ -33,7 +33,7 @@ use Rattle.hist_struct.specs.Axioms.{implied, rel, differ}
 use Rattle.hist_struct.specs.Registers.{mapped, NoneAssigns, IsLatest, each_assign}
 use Rattle.hist_struct.specs.Steps.{is_lesser}
 use Rattle.hist_struct.proofs.Implied.{implied-is}
-use Rattle.hist_struct.proofs.LatestFacts.{IsLast, none-of, last-of, is-last}
+use Rattle.hist_struct.proofs.LatestFacts.{last-of, is-last}
 use Rattle.hist_struct.proofs.RegisterExact.{latest-is, none-is}
 use Rattle.hist_struct.proofs.RegisterForms.{one-none}
 

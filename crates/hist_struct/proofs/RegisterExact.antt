@@ -29,7 +29,7 @@ use Rattle.crdt_enc.proofs.CountLaws.{raised-list}
 use Rattle.hist_struct.specs.Axioms.{implied, rel, differ}
 use Rattle.hist_struct.specs.Conditions.{Rel, Differ}
 use Rattle.hist_struct.specs.Registers.{mapped, Register, register_here, register_at, register_of, is_register, NoneAssigns, EachAssign, IsLatest, EachIn, GivesSome, GivesNone, RegisterTells, Told, RegistersTell, all_in, same_truth, each_assign, is_latest, none_assigns, value_of, gives_some, gives_none, register_tells, told, query_tells, queries_tell, registers_tell}
-use Rattle.hist_struct.proofs.Implied.{implied-is, all-both}
+use Rattle.hist_struct.proofs.Implied.{implied-is}
 use Rattle.hist_struct.proofs.RegisterForms.{one-none, each-assign, some-assign}
 
 -- # The last assign

@@ -1,6 +1,5 @@
 -- The calls that count: what formulas over them say of the elements of any structure.
-use Rattle.std.proofs.Common.{◌≡◌, ◌↔◌, ℕ, zero, suc, ◌+◌, ◌-◌, List, [], ◌∷◌, ◌++◌, length, map, drop, slice_get, Bool, true, false, ◌&&◌, refl, sym, ap, ap₂, ◌∙◌, subst, arith}
-use Rattle.std.proofs.lemmas.Bool.{and_parts}
+use Rattle.std.proofs.Common.{◌≡◌, ◌↔◌, ℕ, zero, suc, ◌+◌, ◌-◌, List, [], ◌∷◌, ◌++◌, length, map, drop, slice_get, Bool, true, ◌&&◌, refl, sym, ap, ap₂, ◌∙◌, subst, arith}
 use Rattle.rp_lang.specs.declared.op.OpDecl.{OpDecl}
 use Rattle.rp_lang.specs.declared.op.OpKind.TheVariants.{Assign}
 use Rattle.rp_lang.specs.Programs.{Prog}
@@ -9,7 +8,7 @@ use Rattle.crdt_lib.specs.declared.asked.Winner.TheVariants.{Update, Delete}
 use Rattle.crdt_lib.specs.Doing.{is_field, is_some_key}
 use Rattle.rp_logic.specs.Elements.{Elem, Made}
 use Rattle.rp_logic.specs.Terms.{Tm, Var}
-use Rattle.rp_logic.specs.Formulas.{Fm, Fms, All, Ex, And, Or, no_fm, also_fm}
+use Rattle.rp_logic.specs.Formulas.{Fm, Fms, All, Ex, And, Or, also_fm}
 use Rattle.rp_logic.specs.Dual.{duals}
 use Rattle.rp_logic.specs.Filling.{raised}
 use Rattle.rp_logic.specs.Truth.{Meaning, Holds, AllHold, NoneHolds, value}

@@ -1,5 +1,5 @@
 -- At each set of calls that formulas take for a snapshot the structure of a step is a stage for them.
-use Rattle.std.proofs.Common.{◌≡◌, ℕ, ◌<◌, Bool, true, false, ◌||◌, if◌then◌else◌, List, [], ◌∷◌, length, map, Option, Some, None, slice_get, refl, sym, ap, ◌∙◌, subst}
+use Rattle.std.proofs.Common.{◌≡◌, ℕ, ◌<◌, Bool, true, if◌then◌else◌, List, [], length, map, Option, Some, None, slice_get, refl, sym, ap, ◌∙◌, subst}
 use Rattle.std.proofs.Math.Bool.{or-false}
 use Rattle.std.proofs.lemmas.Option.{same_Some}
 use Rattle.rp_value.specs.declared.tables.Ty.{Ty}
@@ -25,13 +25,13 @@ use Rattle.rp_logic.proofs.SortLaws.{no}
 use Rattle.rp_symbols.specs.Numbers.{val_fn, old_rel, part_rel, seen_rel, read_rel, snapshot_rel}
 use Rattle.crdt_enc.specs.Elements.{elems_of}
 use Rattle.crdt_enc.specs.Places as places
-use Rattle.crdt_enc.specs.FitsParts.{FitsParts, FitsView, FitsValues}
+use Rattle.crdt_enc.specs.FitsParts.{FitsParts, FitsView}
 use Rattle.crdt_enc.specs.Stages.{ResultFits, InfoFits, Stage}
 use Rattle.crdt_enc.proofs.Starts.{fit-count}
 use Rattle.hist_struct.specs.QueryValues.{answered, val_table}
 use Rattle.hist_struct.specs.Snapshots.{before_at, after_at, reading, AreStages}
 use Rattle.hist_struct.specs.Steps.{Step, IsStep, is_done, is_part, is_seen, is_read}
-use Rattle.hist_struct.specs.Structure.{sig_at, meaning_of, fns_of}
+use Rattle.hist_struct.specs.Structure.{sig_at, meaning_of}
 use Rattle.hist_struct.proofs.FitLaws.{map-at, map-length}
 use Rattle.hist_struct.proofs.Together.{before-fits, after-fits}
 use Rattle.hist_struct.proofs.ValueFacts.{table-is}

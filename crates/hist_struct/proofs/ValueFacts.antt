@@ -1,5 +1,5 @@
 -- The table of a query gives what the query answers.
-use Rattle.std.proofs.Common.{◌≡◌, ℕ, zero, suc, ◌<◌, ℤ, pos, ◌+ℤ◌, Bool, true, false, cond, not, ◌&&◌, if◌then◌else◌, List, [], ◌∷◌, length, take, slice_get, Option, Some, None, refl, sym, ap, ap₂, ◌∙◌, subst, true≢false, arith}
+use Rattle.std.proofs.Common.{◌≡◌, ℕ, zero, suc, ◌<◌, ℤ, pos, ◌+ℤ◌, Bool, true, false, cond, not, ◌&&◌, if◌then◌else◌, List, [], ◌∷◌, length, take, slice_get, Some, None, refl, sym, ap, ap₂, ◌∙◌, subst, true≢false, arith}
 use Rattle.std.proofs.lemmas.Bool.{and_parts}
 use Rattle.std.proofs.lemmas.Option.{none-some, same_Some}
 use Rattle.rp_value.specs.declared.tables.Ty.{Ty}
@@ -18,11 +18,11 @@ use Rattle.crdt_lib.specs.declared.asked.Answer.{Answer}
 use Rattle.crdt_lib.specs.declared.asked.Answer.TheVariants.{Value}
 use Rattle.crdt_lib.specs.declared.asked.Found.TheVariants.{Sum, Nothing}
 use Rattle.crdt_lib.specs.Calls.{Call}
-use Rattle.crdt_lib.specs.Counting.{sum_below, first_below}
+use Rattle.crdt_lib.specs.Counting.{sum_below}
 use Rattle.crdt_lib.specs.Doing.{is_of, on_root, amount}
 use Rattle.crdt_lib.specs.Histories.{call_is}
 use Rattle.crdt_lib.specs.Meaning.{among, is_older, latest, counter_sum}
-use Rattle.crdt_lib.specs.Queries.{at_call, ask, answer_to, answer_by}
+use Rattle.crdt_lib.specs.Queries.{at_call, ask, answer_by}
 use Rattle.crdt_lib.specs.Truths.{found_val, answer_val}
 use Rattle.crdt_lib.specs.Fitting.{fits, all_fit}
 use Rattle.crdt_lib.proofs.NewestLemmas.{first_none}
@@ -37,7 +37,7 @@ use Rattle.crdt_enc.specs.Elements.{elem_of, elems_of}
 use Rattle.crdt_enc.proofs.ValueLaws.{one-value}
 use Rattle.crdt_enc.proofs.Starts.{Starts, fit-count}
 use Rattle.hist_struct.specs.QueryValues.{answered, found_nowhere, otherwise, val_entries, val_table}
-use Rattle.hist_struct.proofs.EndFacts.{End, root-end}
+use Rattle.hist_struct.proofs.EndFacts.{root-end}
 
 -- # Look-ups
 

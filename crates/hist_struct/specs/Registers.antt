@@ -1,6 +1,6 @@
 -- The axiom of registers: what a query of a register gives at a view is what the assign of the greatest stamp among those that
 -- count there assigns, or `none`. As a condition on a structure and as formulas.
-use Rattle.std.specs.Prelude.{◌≡◌, ℕ, zero, suc, ◌-◌, Bool, true, false, ◌&&◌, List, [], ◌∷◌, ◌++◌, length, map, Option, Some, None, slice_get, if◌then◌else◌}
+use Rattle.std.specs.Prelude.{◌≡◌, ℕ, suc, ◌-◌, Bool, true, false, ◌&&◌, List, [], ◌∷◌, ◌++◌, length, map, Option, Some, None, slice_get, if◌then◌else◌}
 use Rattle.rp_value.specs.declared.tables.Ty.{Ty}
 use Rattle.rp_lang.specs.Crdts.{Cr, Reg}
 use Rattle.rp_lang.specs.Paths.{field_in, root_crdt}
@@ -22,7 +22,7 @@ use Rattle.rp_logic.specs.Terms.{Tm, Var, Fn, Con, no_tm, also_tm}
 use Rattle.rp_logic.specs.Formulas.{Fm, And, All, no_fm, also_fm}
 use Rattle.rp_logic.specs.Filling.{raised}
 use Rattle.rp_logic.specs.Truth.{Meaning}
-use Rattle.rp_symbols.specs.Numbers.{call_sort, stamp_rel, before_rel, op_fn, op_con, val_fn}
+use Rattle.rp_symbols.specs.Numbers.{stamp_rel, before_rel, op_fn, op_con, val_fn}
 use Rattle.rp_symbols.specs.Signatures.{sort_of}
 use Rattle.crdt_enc.specs.Builders.{one_fm, tms_of}
 use Rattle.crdt_enc.specs.Elements.{elems}
