@@ -1,5 +1,5 @@
 -- A query that isn't a `get` answers a truth, and its arguments fit.
-use Rattle.std.proofs.Common.{◌≡◌, ℕ, List, [], ◌∷◌, ◌+◌, slice_get, Bool, true, false, Option, Some, None, refl, sym, ap, ◌∙◌, inl, inr}
+use Rattle.std.proofs.Common.{◌≡◌, ℕ, List, [], ◌∷◌, ◌+◌, slice_get, Bool, true, false, Option, Some, None, refl, sym, ap, ◌∙◌, ◌⊎◌, inl, inr}
 use Rattle.rp_value.specs.Values.{Val}
 use Rattle.rp_lang.specs.Crdts.{Cr, SetAw, SetRw, Reg, MvReg, Counter, MapUw, MapDw, Struct}
 use Rattle.rp_lang.specs.declared.op.OpDecl.{OpDecl}
@@ -9,8 +9,9 @@ use Rattle.rp_lang.specs.declared.op.PathStep.{PathStep}
 use Rattle.rp_lang.specs.declared.op.PathStep.TheVariants.{Field, Key}
 use Rattle.rp_lang.specs.declared.query.QueryKind.{QueryKind}
 use Rattle.rp_lang.specs.declared.query.QueryKind.TheVariants.{Contains, HasKey, GetReg, GetSum}
-use Rattle.rp_lang.specs.Paths.{is_tx, is_tx_kind, is_no_path, field_in, root_crdt}
+use Rattle.rp_lang.specs.Paths.{is_tx, is_op, is_tx_kind, is_no_path, field_in, root_crdt}
 use Rattle.rp_lang.specs.Typing.{is_get}
+use Rattle.rp_lang.specs.Programs.{Prog}
 use Rattle.crdt_lib.specs.Calls.{Call}
 use Rattle.crdt_lib.specs.declared.asked.Answer.{Answer}
 use Rattle.crdt_lib.specs.declared.asked.Answer.TheVariants.{Truth}
@@ -99,17 +100,17 @@ tx-is decl h =
     tx Tx h = refl
     tx _ h = no h
 
+pub ops-stand : (p : Prog) → ((o : ℕ) (decl : OpDecl) → slice_get p.ops o ≡ Some decl → (is_tx decl ≡ true) ⊎ (is_op p.roots decl ≡ true)) → OpsStand p
+ops-stand p h o decl e = elim (h o decl e) [
+  | inl tx ↦ inl (tx-is decl tx)
+  | inr is ↦ inr (and_parts _ _ is).1
+]
+
 pub asks-of : (r : Reading) (M : Meaning) (at : At) → Staged r M at → Asks r
 asks-of r M at stage = record {
   fit = λ n query args e get f.
-      question-fits r.program stand query args (and_parts _ _ (stage.queries_stand n query e)).1 f;
+      question-fits r.program (ops-stand r.program stage.ops_stand) query args (and_parts _ _ (stage.queries_stand n query e)).1 f;
   answers = λ n query args e get.
       let t = asks-truth r.program.ops r.parts.calls query.kind get (root_crdt (slice_get r.program.roots query.root)) query.path 0 (among r.parts.calls r.visible (on_root r.program.ops query.root)) args in
       (t.0, ap (λ q. answer_by r.program q r.parts.calls r.visible args) e ∙ t.1);
 }
-  where
-    stand : OpsStand r.program
-    stand o decl e = elim (stage.ops_stand o decl e) [
-      | inl tx ↦ inl (tx-is decl tx)
-      | inr is ↦ inr (and_parts _ _ is).1
-    ]

@@ -95,7 +95,7 @@ no-stand kind own h = no h
 next-is : (decl : OpDecl) (steps keys : ℕ) (crdt : Cr) → (a : Along decl steps keys crdt) → slice_get decl.path steps ≡ slice_get a.rest 0
 next-is decl steps keys crdt a = ap (λ xs. slice_get xs steps) a.path ∙ get-behind a.front a.rest steps a.count
 
-field-step : (decl : OpDecl) (steps keys : ℕ) (crdt next : Cr) (n : ℕ) → Along decl steps keys crdt → is_field n (slice_get decl.path steps) ≡ true → field_in crdt n ≡ Some next → Along decl (steps + 1) keys next
+pub field-step : (decl : OpDecl) (steps keys : ℕ) (crdt next : Cr) (n : ℕ) → Along decl steps keys crdt → is_field n (slice_get decl.path steps) ≡ true → field_in crdt n ≡ Some next → Along decl (steps + 1) keys next
 field-step decl steps keys crdt next n a f e = go a.rest refl (ap (is_field n) (sym (next-is decl steps keys crdt a)) ∙ f)
   where
     go : (rest : List PathStep) → a.rest ≡ rest → is_field n (slice_get rest 0) ≡ true → Along decl (steps + 1) keys next
@@ -234,7 +234,7 @@ ends-fit p decl keys crdt kind t k e same takes f =
       fit = f;
     }
 
-leaf-fits : (p : Prog) (w : Way Both) (crdt : Cr) (kind : OpKind) (t : Ty) (k : Val) → WayAlong p w crdt → ((step : PathStep) → stepped crdt step ≡ None) → paths.op_takes kind crdt ≡ Some t → same_kind Tx kind ≡ false
+pub leaf-fits : (p : Prog) (w : Way Both) (crdt : Cr) (kind : OpKind) (t : Ty) (k : Val) → WayAlong p w crdt → ((step : PathStep) → stepped crdt step ≡ None) → paths.op_takes kind crdt ≡ Some t → same_kind Tx kind ≡ false
     → fits p t k ≡ true → Leaf p w kind k
 leaf-fits p w crdt kind t k along none takes apart f o decl e g =
     let b = and_parts (goes (terms w) decl) (is_kind kind decl) g in
@@ -243,7 +243,7 @@ leaf-fits p w crdt kind t k along none takes apart f o decl e g =
       | inr a ↦ ends-fit p decl (length (vals w)) crdt kind t k (leaf-ends decl (depth (terms w)) (length (vals w)) crdt none a) b.1 takes f
     ]
 
-key-fits : (p : Prog) (w : Way Both) (crdt next : Cr) (ty : Ty) (b : Both) → WayFits p w → WayAlong p w crdt → IsMap crdt ty next → fits p ty b.val ≡ true → WayFits p (AtKey (winner_in crdt) b w)
+pub key-fits : (p : Prog) (w : Way Both) (crdt next : Cr) (ty : Ty) (b : Both) → WayFits p w → WayAlong p w crdt → IsMap crdt ty next → fits p ty b.val ≡ true → WayFits p (AtKey (winner_in crdt) b w)
 key-fits p w crdt next ty b way along m f = (
   way,
   (λ o decl e g.
@@ -261,7 +261,7 @@ key-fits p w crdt next ty b way along m f = (
       ],
 )
 
-along-field : (p : Prog) (w : Way Both) (crdt next : Cr) (n : ℕ) → WayAlong p w crdt → field_in crdt n ≡ Some next → WayAlong p (AtField n w) next
+pub along-field : (p : Prog) (w : Way Both) (crdt next : Cr) (n : ℕ) → WayAlong p w crdt → field_in crdt n ≡ Some next → WayAlong p (AtField n w) next
 along-field p w crdt next n along is o decl e g =
     let s = and_parts (goes (terms w) decl) (is_field n (slice_get decl.path (depth (terms w)))) g in
     elim (along o decl e s.0) [
@@ -269,7 +269,7 @@ along-field p w crdt next n along is o decl e g =
       | inr a ↦ inr (field-step decl (depth (terms w)) (length (vals w)) crdt next n a s.1 is)
     ]
 
-along-key : (p : Prog) (w : Way Both) (crdt next : Cr) (ty : Ty) (b : Both) → WayAlong p w crdt → IsMap crdt ty next → WayAlong p (AtKey (winner_in crdt) b w) next
+pub along-key : (p : Prog) (w : Way Both) (crdt next : Cr) (ty : Ty) (b : Both) → WayAlong p w crdt → IsMap crdt ty next → WayAlong p (AtKey (winner_in crdt) b w) next
 along-key p w crdt next ty b along m o decl e g =
     let s = and_parts (goes (terms w) decl) (is_some_key (slice_get decl.path (depth (terms w)))) g in
     elim (along o decl e s.0) [
@@ -360,7 +360,7 @@ nothing-asked : {A : Type 0} (p : Prog) (kind : QueryKind) (own : Option (List T
 nothing-asked p kind own result h = no h
 
 -- a step to a key: the map's key type is that of the argument
-asked-key : (p : Prog) (kind : QueryKind) (ks ty arg : Ty) (next : Cr) (path : List PathStep) (tys : List Ty) (result : Ty) (x y : Bool) → same_ty ks ty ≡ x → same_ty arg ty ≡ y
+pub asked-key : (p : Prog) (kind : QueryKind) (ks ty arg : Ty) (next : Cr) (path : List PathStep) (tys : List Ty) (result : Ty) (x y : Bool) → same_ty ks ty ≡ x → same_ty arg ty ≡ y
     → query_stands p.types p.cons kind (reached (cond x (Some next) None) path) (cond y (own_args path tys) None) result ≡ true
     → (arg ≡ ks) × (query_stands p.types p.cons kind (reached (Some next) path) (own_args path tys) result ≡ true)
 asked-key p kind ks ty arg next path tys result true true ex ey h = (same-type arg ty ey ∙ sym (same-type ks ty ex), h)
@@ -410,19 +410,13 @@ OpsStand p =
     (o : ℕ) (decl : OpDecl) → slice_get p.ops o ≡ Some decl
     → IsTx decl ⊎ (op_stands decl.kind (reached (root_crdt (slice_get p.roots decl.root)) decl.path) (own_args decl.path decl.args) ≡ true)
 
-pub question-fits : (p : Prog) → OpsStand p → (query : QueryDecl) (args : List Both)
-    → query_stands p.types p.cons query.kind (reached (root_crdt (slice_get p.roots query.root)) query.path) (own_args query.path query.args) query.result ≡ true
-    → all_fit p query.args (vals_of args) ≡ true → AskFits p query.kind (root_crdt (slice_get p.roots query.root)) query.path (Root query.root) args
-question-fits p ops query args stands f =
-    ask-fits p query.kind (root_crdt (slice_get p.roots query.root)) query.path (Root query.root) args query.args query.result tt
-    (λ c e o decl eo g. start c e o decl eo g (ops o decl eo))
-    stands f
+pub root-along : (p : Prog) → OpsStand p → (root : ℕ) (c : Cr) → root_crdt (slice_get p.roots root) ≡ Some c → WayAlong p (Root root) c
+root-along p ops root c e o decl eo g = start (ops o decl eo)
   where
-    start : (c : Cr) → root_crdt (slice_get p.roots query.root) ≡ Some c → (o : ℕ) (decl : OpDecl) → slice_get p.ops o ≡ Some decl → nat_eq decl.root query.root ≡ true
-        → IsTx decl ⊎ (op_stands decl.kind (reached (root_crdt (slice_get p.roots decl.root)) decl.path) (own_args decl.path decl.args) ≡ true) → IsTx decl ⊎ Along decl 0 0 c
-    start c e o decl eo g (inl tx) = inl tx
-    start c e o decl eo g (inr h) =
-        let root : root_crdt (slice_get p.roots decl.root) ≡ Some c = ap (λ r. root_crdt (slice_get p.roots r)) (eqb-true decl.root query.root g) ∙ e in
+    start : IsTx decl ⊎ (op_stands decl.kind (reached (root_crdt (slice_get p.roots decl.root)) decl.path) (own_args decl.path decl.args) ≡ true) → IsTx decl ⊎ Along decl 0 0 c
+    start (inl tx) = inl tx
+    start (inr h) =
+        let here : root_crdt (slice_get p.roots decl.root) ≡ Some c = ap (λ r. root_crdt (slice_get p.roots r)) (eqb-true decl.root root g) ∙ e in
         inr (record {
           front = [];
           rest = decl.path;
@@ -433,5 +427,13 @@ question-fits p ops query args stands f =
           own = decl.args;
           args = refl;
           heads_are = refl;
-          stands = ap (λ r. op_stands decl.kind (reached r decl.path) (own_args decl.path decl.args)) (sym root) ∙ h;
+          stands = ap (λ r. op_stands decl.kind (reached r decl.path) (own_args decl.path decl.args)) (sym here) ∙ h;
         })
+
+pub question-fits : (p : Prog) → OpsStand p → (query : QueryDecl) (args : List Both)
+    → query_stands p.types p.cons query.kind (reached (root_crdt (slice_get p.roots query.root)) query.path) (own_args query.path query.args) query.result ≡ true
+    → all_fit p query.args (vals_of args) ≡ true → AskFits p query.kind (root_crdt (slice_get p.roots query.root)) query.path (Root query.root) args
+question-fits p ops query args stands f =
+    ask-fits p query.kind (root_crdt (slice_get p.roots query.root)) query.path (Root query.root) args query.args query.result tt
+    (root-along p ops query.root)
+    stands f

@@ -40,7 +40,7 @@ field-fine types no_field n c h e = absurd (none-some c e)
 field-fine types (also_field name crdt rest) zero c h e = ap (is_crdt types) (sym (same_Some crdt c e)) ∙ (and_parts _ _ h).0
 field-fine types (also_field name crdt rest) (suc n) c h e = field-fine types rest n c (and_parts _ _ h).1 e
 
-in-field : (types : TypeTable) (crdt : Cr) (n : ℕ) (c : Cr) → is_crdt types crdt ≡ true → field_in crdt n ≡ Some c → is_crdt types c ≡ true
+pub in-field : (types : TypeTable) (crdt : Cr) (n : ℕ) (c : Cr) → is_crdt types crdt ≡ true → field_in crdt n ≡ Some c → is_crdt types c ≡ true
 in-field types (Struct fields) n c h e = field-fine types fields n c (and_parts _ _ h).1 e
 in-field types _ n c h e = absurd (none-some c e)
 
@@ -132,7 +132,7 @@ asked-data types cons kind (Some crdt) fine (Key t ∷ path) (u ∷ ts) result e
     key-data types cons kind crdt t u path ts result (fine crdt refl)
     (λ c k e. asked-data types cons kind (Some c) (λ d x. ap (is_crdt types) (sym (same_Some c d x)) ∙ k) path ts result e) e
 
-root-fine : (p : Prog) → Facts p → (o : Option Rt) → ((root : Rt) → o ≡ Some root → is_crdt p.types root.crdt ≡ true) → (c : Cr) → root_crdt o ≡ Some c → is_crdt p.types c ≡ true
+pub root-fine : (p : Prog) → Facts p → (o : Option Rt) → ((root : Rt) → o ≡ Some root → is_crdt p.types root.crdt ≡ true) → (c : Cr) → root_crdt o ≡ Some c → is_crdt p.types c ≡ true
 root-fine p f None each-root c e = absurd (none-some c e)
 root-fine p f (Some root) each-root c e = ap (is_crdt p.types) (sym (same_Some root.crdt c e)) ∙ each-root root refl
 

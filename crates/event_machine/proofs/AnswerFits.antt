@@ -96,11 +96,11 @@ assigned-fits p s root ty c visible f calls m a =
 
 -- # Queries that give a value
 
-counter-is : (crdt : Cr) (result : Ty) → is_ty (amounts_of crdt) result ≡ true → (crdt ≡ Counter) × (result ≡ ty.Int)
+pub counter-is : (crdt : Cr) (result : Ty) → is_ty (amounts_of crdt) result ≡ true → (crdt ≡ Counter) × (result ≡ ty.Int)
 counter-is Counter result h = (refl, sym (same-type ty.Int result h))
 counter-is _ result h = absurd (true≢false (sym h))
 
-register-is : (p : Prog) (crdt : Cr) (result : Ty) → is_maybe_in p.types p.cons (value_of crdt) result ≡ true → (t : Ty) × (crdt ≡ Reg t) × (types.is_maybe_of p.types p.cons t result ≡ true)
+pub register-is : (p : Prog) (crdt : Cr) (result : Ty) → is_maybe_in p.types p.cons (value_of crdt) result ≡ true → (t : Ty) × (crdt ≡ Reg t) × (types.is_maybe_of p.types p.cons t result ≡ true)
 register-is p (Reg t) result h = (t, refl, h)
 register-is p _ result h = absurd (true≢false (sym h))
 
@@ -111,7 +111,7 @@ pub record QueryEnds (p : Prog) (query : QueryDecl) : Type 0 where
   pub takes : own_args query.path query.args ≡ Some own
   pub fit : query_fits p.types p.cons query.kind crdt own query.result ≡ true
 
-query-leads : (p : Prog) (query : QueryDecl) → is_query p.types p.cons p.roots query ≡ true → QueryEnds p query
+pub query-leads : (p : Prog) (query : QueryDecl) → is_query p.types p.cons p.roots query ≡ true → QueryEnds p query
 query-leads p query h = go (reached (root_crdt (slice_get p.roots query.root)) query.path) refl (own_args query.path query.args) refl (both_true _ _ h).1
   where
     go : (c : Option Cr) → reached (root_crdt (slice_get p.roots query.root)) query.path ≡ c → (own : Option (List Ty)) → own_args query.path query.args ≡ own

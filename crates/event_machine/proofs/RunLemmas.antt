@@ -36,7 +36,7 @@ safe-running p (suc n) s i h = λ run. h run run
 
 -- # What isn't refused is a label of a running invocation
 
-running-here : (p : Prog) (s : State) (label : Label) (i : ℕ) → named label ≡ Some i → refusal p s label ≡ None → IsRunning s i
+pub running-here : (p : Prog) (s : State) (label : Label) (i : ℕ) → named label ≡ Some i → refusal p s label ≡ None → IsRunning s i
 running-here p s label i names none =
     let f = free p s label none in
     let there : unless (nat_lt i (length s.invocations)) (NoInvocation i) ≡ None =
@@ -46,7 +46,7 @@ running-here p s label i names none =
     subst (λ o. option_and_then (λ i. option_and_then (λ inv. unless (is_running inv.standing) (NotRunning i)) (slice_get s.invocations i)) o ≡ None) names f.stands_ready in
     (found.0, found.1, running-at s i found.0 found.1 ready)
 
-accepted : (s new : State) (why : Option Why) (answer : Answer) → Leads s (unless_refused why answer) new → why ≡ None
+pub accepted : (s new : State) (why : Option Why) (answer : Answer) → Leads s (unless_refused why answer) new → why ≡ None
 accepted s new None answer l = refl
 accepted s new (Some why) answer l = absurd l
 

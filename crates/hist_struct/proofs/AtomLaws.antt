@@ -36,35 +36,35 @@ all-plain [] rest n l = absurd (omega (arith, l))
 all-plain (a ∷ atoms) rest zero l = refl
 all-plain (a ∷ atoms) rest (suc n) l = all-plain atoms rest n (omega (arith, l))
 
-plain-at : (p : Prog) (n : ℕ) → n < length p.types.atoms → slice_get (sorts_of p) (atom_sort n) ≡ Some so.Plain
+pub plain-at : (p : Prog) (n : ℕ) → n < length p.types.atoms → slice_get (sorts_of p) (atom_sort n) ≡ Some so.Plain
 plain-at p n l = ap (slice_get (sorts_of p)) (let e : 2 + n ≡ suc (suc n) = omega arith in e) ∙ all-plain p.types.atoms _ n l
 
-abbrev High : ℕ → List LogicCon → Type 0
+abbrev pub High : ℕ → List LogicCon → Type 0
 High b [] = Unit {0}
 High b (c ∷ cs) = (b ≤ c.sort) × High b cs
 
-high-both : (b : ℕ) (xs ys : List LogicCon) → High b xs → High b ys → High b (xs ++ ys)
+pub high-both : (b : ℕ) (xs ys : List LogicCon) → High b xs → High b ys → High b (xs ++ ys)
 high-both b [] ys h k = k
 high-both b (x ∷ xs) ys h k = (h.0, high-both b xs ys h.1 k)
 
-high-map : {A : Type 0} (b : ℕ) (f : A → LogicCon) (xs : List A) → ((x : A) → b ≤ (f x).sort) → High b (map f xs)
+pub high-map : {A : Type 0} (b : ℕ) (f : A → LogicCon) (xs : List A) → ((x : A) → b ≤ (f x).sort) → High b (map f xs)
 high-map b f [] h = tt
 high-map b f (x ∷ xs) h = (h x, high-map b f xs h)
 
-high-free : (b : ℕ) (cs : List LogicCon) (c s : ℕ) → High b cs → s < b → is_con_of (slice_get cs c) s ≡ false
+pub high-free : (b : ℕ) (cs : List LogicCon) (c s : ℕ) → High b cs → s < b → is_con_of (slice_get cs c) s ≡ false
 high-free b [] c s h l = refl
 high-free b (x ∷ cs) zero s h l = ne_eqb x.sort s (λ e. let k = h.0 in omega (arith, e, k, l))
 high-free b (x ∷ cs) (suc c) s h l = high-free b cs c s h.1 l
 
-free-at : (p : Prog) (con n : ℕ) → n < length p.types.atoms → is_con_of (slice_get (con_decls p) con) (atom_sort n) ≡ false
-free-at p con n l =
-    let b : ℕ = 4 + length p.types.atoms in
-    high-free (4 + length p.types.atoms) (con_decls p) con (atom_sort n)
-    (high-both (4 + length p.types.atoms) _ _ (high-map (4 + length p.types.atoms) (λ (decl : ConDecl). con_of (data_sort p decl.of) (map (sort_of p) decl.fields)) p.cons.cons (λ decl. omega arith))
+pub all-high : (p : Prog) → High (4 + length p.types.atoms) (con_decls p)
+all-high p =
+    high-both (4 + length p.types.atoms) _ _ (high-map (4 + length p.types.atoms) (λ (decl : ConDecl). con_of (data_sort p decl.of) (map (sort_of p) decl.fields)) p.cons.cons (λ decl. omega arith))
     (high-both (4 + length p.types.atoms) _ _ (high-map (4 + length p.types.atoms) (λ (decl : OpDecl). con_of (op_sort p) (map (sort_of p) decl.args)) p.ops (λ decl. omega arith))
     (high-both (4 + length p.types.atoms) _ _ (high-map (4 + length p.types.atoms) (λ (q : Proc). con_of (info_sort p) (map (sort_of p) q.params)) p.procs (λ q. omega arith))
-    ((let l : 4 + length p.types.atoms ≤ outcome_sort p = omega arith in l), high-map (4 + length p.types.atoms) (λ (q : Proc). con_of (outcome_sort p) (map (sort_of p) (result_list q.result))) p.procs (λ q. omega arith)))))
-    (omega (arith, l))
+    ((let l : 4 + length p.types.atoms ≤ outcome_sort p = omega arith in l), high-map (4 + length p.types.atoms) (λ (q : Proc). con_of (outcome_sort p) (map (sort_of p) (result_list q.result))) p.procs (λ q. omega arith))))
+
+pub free-at : (p : Prog) (con n : ℕ) → n < length p.types.atoms → is_con_of (slice_get (con_decls p) con) (atom_sort n) ≡ false
+free-at p con n l = high-free (4 + length p.types.atoms) (con_decls p) con (atom_sort n) (all-high p) (omega (arith, l))
 
 size-at : (a b k u n : ℕ) → n < k → get_or (a ∷ b ∷ replicate k u) (atom_sort n) 0 ≡ u
 size-at a b k u n l = ap (λ i. get_or (a ∷ b ∷ replicate k u) i 0) (let e : 2 + n ≡ suc (suc n) = omega arith in e) ∙ get_or-replicate k n u 0 l

@@ -29,12 +29,12 @@ use Rattle.hist_struct.proofs.TableFacts.{point-of, inv-of}
 use Rattle.hist_struct.proofs.StepLaws.{is-call, op-at, origin-at}
 use Rattle.hist_struct.proofs.ResultLaws.{is-inv, info-at, old-at, new-at}
 
-map-at : {A B : Type 0} (f : A → B) (xs : List A) (i : ℕ) (y : B) → At (map f xs) i y → (x : A) × At xs i x × (f x ≡ y)
+pub map-at : {A B : Type 0} (f : A → B) (xs : List A) (i : ℕ) (y : B) → At (map f xs) i y → (x : A) × At xs i x × (f x ≡ y)
 map-at f [] i y a = absurd (none-some y a)
 map-at f (x ∷ xs) zero y a = (x, refl, same_Some (f x) y a)
 map-at f (x ∷ xs) (suc i) y a = map-at f xs i y a
 
-map-length : {A B : Type 0} (f : A → B) (xs : List A) → length (map f xs) ≡ length xs
+pub map-length : {A B : Type 0} (f : A → B) (xs : List A) → length (map f xs) ≡ length xs
 map-length f [] = refl
 map-length f (x ∷ xs) = ap suc (map-length f xs)
 

@@ -1,38 +1,20 @@
 -- Which steps there are: nothing yet, and each accepted label of a sound state.
-use Rattle.std.proofs.Common.{◌≡◌, ℕ, ◌≤◌, nat_lt, Bool, true, List, length, slice_get, Option, Some, None, ltb-true, subst, refl, ap, sym, ◌∙◌, inl, inr, true≢false, arith}
+use Rattle.std.proofs.Common.{◌≡◌, ℕ, ◌≤◌, Bool, true, List, refl, ap, sym, ◌∙◌, inl, inr, true≢false, arith}
 use Rattle.std.proofs.lemmas.Option.{none-some}
 use Rattle.rp_lang.specs.Programs.{Prog}
 use Rattle.crdt_lib.specs.Snapshots.{IsSnapshot}
-use Rattle.std.specs.Option.{option_and_then}
-use Rattle.event_machine.specs.Machine.{Invocation, State, Label, Why, NoInvocation, NotRunning, Answer, unless, is_running, unless_refused, named, refusal, effect, step, empty}
-use Rattle.event_machine.specs.LocalSafety.{IsRunning}
-use Rattle.event_machine.proofs.MoveLemmas.{free, unless-none, running-at}
+use Rattle.event_machine.specs.Machine.{Invocation, State, Label, refusal, effect, step, empty}
+use Rattle.event_machine.proofs.RunLemmas.{running-here, accepted}
 use Rattle.event_machine.specs.Runs.{Leads}
 use Rattle.event_machine.specs.WellFormed.{commits_of}
 use Rattle.event_machine.specs.Growth.{IsValid}
-use Rattle.event_machine.proofs.PlaceLemmas.{at-lt, at-one, at-exists}
+use Rattle.event_machine.proofs.PlaceLemmas.{at-lt, at-one}
 use Rattle.event_machine.proofs.KeptLemmas.{step-formed, empty-formed}
 use Rattle.event_machine.proofs.TypedKept.{empty-typed, step-typed}
 use Rattle.event_machine.proofs.ProgramFits.{procs-fit}
 use Rattle.rp_lang.specs.WellFormed.{is_well_formed}
 use Rattle.rp_logic.specs.Elements.{Elem}
 use Rattle.hist_struct.specs.Steps.{IsStep, Acts, step_of, nothing_yet}
-
--- # What isn't refused is a label of a running invocation
-
-running-here : (p : Prog) (s : State) (label : Label) (i : ℕ) → named label ≡ Some i → refusal p s label ≡ None → IsRunning s i
-running-here p s label i names none =
-    let f = free p s label none in
-    let there : unless (nat_lt i (length s.invocations)) (NoInvocation i) ≡ None =
-    subst (λ o. option_and_then (λ i. unless (nat_lt i (length s.invocations)) (NoInvocation i)) o ≡ None) names f.there in
-    let found = at-exists s.invocations i (ltb-true i (length s.invocations) (unless-none (nat_lt i (length s.invocations)) (NoInvocation i) there)) in
-    let ready : option_and_then (λ inv. unless (is_running inv.standing) (NotRunning i)) (slice_get s.invocations i) ≡ None =
-    subst (λ o. option_and_then (λ i. option_and_then (λ inv. unless (is_running inv.standing) (NotRunning i)) (slice_get s.invocations i)) o ≡ None) names f.stands_ready in
-    (found.0, found.1, running-at s i found.0 found.1 ready)
-
-accepted : (s new : State) (why : Option Why) (answer : Answer) → Leads s (unless_refused why answer) new → why ≡ None
-accepted s new None answer l = refl
-accepted s new (Some why) answer l = absurd l
 
 -- # The steps
 

@@ -47,7 +47,7 @@ put-two f n c d b l m h = in-pairs f n c d l m ∙ h
 
 -- # Numbers of the relations of views
 
-get-behind : {A : Type 0} (xs ys : List A) (i n : ℕ) → i ≡ length xs + n → slice_get (xs ++ ys) i ≡ slice_get ys n
+pub get-behind : {A : Type 0} (xs ys : List A) (i n : ℕ) → i ≡ length xs + n → slice_get (xs ++ ys) i ≡ slice_get ys n
 get-behind [] ys i n e = ap (slice_get ys) (omega (arith, e))
 get-behind (x ∷ xs) ys zero n e = absurd (omega (arith, e))
 get-behind (x ∷ xs) ys (suc i) n e = get-behind xs ys i n (omega (arith, e))

@@ -24,6 +24,7 @@ use Rattle.hist_struct.proofs.Implied.{all-both}
 use Rattle.hist_struct.proofs.Exact.{before_orders-exact, stamps_order-exact, transactions_part-exact, transactions_are_whole-exact, commits_grow-exact, views_grow-exact, own_calls_in_line-exact, markers_stand-exact}
 use Rattle.hist_struct.proofs.ResultExact.{results_stay-exact, arguments_were_results-exact}
 use Rattle.hist_struct.proofs.PlaceExact.{places_are_told-exact}
+use Rattle.hist_struct.proofs.RegisterExact.{registers_tell-exact}
 use Rattle.hist_struct.proofs.PlaceLaws.{places_are_told-met}
 use Rattle.hist_struct.proofs.StepLaws.{before_orders-met, stamps_order-met, transactions_part-met, transactions_are_whole-met, commits_grow-met, views_grow-met, own_calls_in_line-met, markers_stand-met}
 use Rattle.hist_struct.proofs.ResultLaws.{results_stay-met, arguments_were_results-met}
@@ -41,6 +42,7 @@ exact p begins M = record {
   places_are_told = places_are_told-exact p M;
   arguments_were_results = arguments_were_results-exact p M;
   markers_stand = markers_stand-exact p M;
+  registers_tell = registers_tell-exact p M;
 }
 
 pub met : (S : Signature) (x : Step) → IsSig S → IsProgram x.program → IsStep x → AreMet x.program (begins x) (meaning_of S x)

@@ -2,6 +2,8 @@ pub mod Axioms
 pub mod Conditions
 pub mod Holding
 pub mod means
+pub mod QueryValues
+pub mod Registers
 pub mod Snapshots
 pub mod Steps
 pub mod Structure

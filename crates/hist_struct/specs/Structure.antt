@@ -20,6 +20,7 @@ use Rattle.rp_symbols.specs.Numbers.{op_con, info_con, unreturned_con, outcome_c
 use Rattle.rp_symbols.specs.Signatures.{sig_of, with_path}
 use Rattle.crdt_enc.specs.Elements.{elem_of, elems_of}
 use Rattle.hist_struct.specs.Tables.{set_relation, pair_relation, pairs, table}
+use Rattle.hist_struct.specs.QueryValues.{val_tables}
 use Rattle.hist_struct.specs.Steps.{Step, begins, is_done, is_lesser, is_part, is_seen, is_read}
 
 -- # Elements of calls and invocations
@@ -103,6 +104,24 @@ rels_of x =
     ∷ set_relation (is_part x) calls
     ∷ (id_rels x 0 x.program.types.atoms ++ view_rels x 0 (begins x))
 
+-- # Functions
+
+-- what queries give at these calls
+abbrev pub vals_at : Step → List Call → (ℕ → Bool) → List Fun
+vals_at x h visible = val_tables x.program h visible 0 x.program.queries
+
+-- at the views and reading sets of n begins, of which the first is number k
+abbrev pub view_vals : Step → ℕ → ℕ → List Fun
+view_vals x k zero = []
+view_vals x k (suc n) =
+    vals_at x x.old.calls (is_seen x.old x.inv k) ++ (vals_at x x.old.calls (is_read x.old x.inv k) ++ view_vals x (suc k) n)
+
+-- at all sets of calls that formulas take for a snapshot
+abbrev pub vals_of : Step → List Fun
+vals_of x =
+    vals_at x x.old.calls (is_done x.old)
+    ++ (vals_at x x.new.calls x.snapshot ++ (vals_at x x.old.calls (is_part x) ++ view_vals x 0 (begins x)))
+
 abbrev pub fns_of : Step → List Fun
 fns_of x =
     table (λ c. op_elem x.program (slice_get x.new.calls c)) (length x.new.calls)
@@ -112,13 +131,13 @@ fns_of x =
     ∷ table (λ i. result_elem x.program (slice_get x.new.invocations i)) (length x.new.invocations)
     ∷ Sum
     ∷ Difference
-    ∷ []
+    ∷ vals_of x
 
 abbrev pub self_of : Step → ℕ → List Elem
 self_of x zero = []
 self_of x (suc n) = Point x.inv ∷ x.vals
 
--- The functions of queries and the defaults of sorts are still to come.
+-- The defaults of sorts are still to come.
 abbrev pub structure_of : Step → Structure
 structure_of x = record {
   sizes = length x.new.calls ∷ length x.new.invocations ∷ replicate (length x.program.types.atoms) x.new.universe;

@@ -1,7 +1,11 @@
 //! Laws of the definitions, as functions with nothing to run.
-ghost use Rattle.std.specs.Prelude.{◌≡◌, ◌≤◌, ◌<◌, ◌&&◌, nat_lt, IsTrue, ℕ, Bool, List, Some};
+ghost use Rattle.std.specs.Prelude.{◌≡◌, ◌≤◌, ◌<◌, ◌&&◌, nat_lt, true, IsTrue, ℕ, Bool, List, Option, Some};
+ghost use Rattle.rp_value.specs.declared.tables.Ty.{Ty};
+ghost use Rattle.rp_value.specs.Values.{Val};
+ghost use Rattle.rp_lang.specs.Types.{is_ordinary};
 ghost use Rattle.rp_lang.specs.Programs.{Prog};
 ghost use Rattle.rp_lang.specs.WellFormed.{is_well_formed};
+ghost use Rattle.crdt_lib.specs.Fitting.{fits};
 ghost use Rattle.crdt_lib.specs.Snapshots.{IsSnapshot};
 ghost use Rattle.event_machine.specs.Machine.{State, Label, step, plain};
 ghost use Rattle.event_machine.specs.Runs.{Leads};
@@ -9,11 +13,13 @@ ghost use Rattle.event_machine.specs.WellFormed.{commits_of};
 ghost use Rattle.rp_logic.specs.Elements.{Elem};
 ghost use Rattle.rp_logic.specs.Structures.{apply, is_related};
 ghost use Rattle.rp_logic.specs.Truth.{Meaning, AllTrue};
-ghost use Rattle.crdt_enc.specs.FitsParts.{FitsParts};
+ghost use Rattle.rp_symbols.specs.Signatures.{sort_of};
+ghost use Rattle.crdt_enc.specs.Elements.{elem_of};
+ghost use Rattle.crdt_enc.specs.FitsParts.{FitsParts, Is};
 ghost use Rattle.event_machine.specs.Growth.{IsValid};
 ghost use Rattle.hist_struct.specs.Steps.{Step, begins, IsStep, Acts, step_of, nothing_yet};
 ghost use Rattle.hist_struct.specs.Structure.{sig_at, meaning_of};
-ghost use Rattle.hist_struct.specs.Snapshots.{before_at, after_at, AreSnapshots, AreViews};
+ghost use Rattle.hist_struct.specs.Snapshots.{before_at, after_at, AreSnapshots, AreViews, AreStages};
 ghost use Rattle.hist_struct.specs.Holding.{AreExact, AreMet, axioms};
 ghost use Rattle.hist_struct.specs.Tables.{one_point, two_points, set_relation, pair_relation, table};
 
@@ -31,7 +37,8 @@ pub fn axioms_hold()
 {}
 
 /// The structure fits the state before the step, and the state after it; its sets of visible calls are those of the
-/// step, and what invariants are assumed at are snapshots.
+/// step, its functions of queries give what the queries give there, so that formulas mean in it what they say; and what
+/// invariants are assumed at are snapshots.
 pub fn structures_fit()
     ensures before { (x : Step) (consts : List ℕ) (reads : ℕ) → IsTrue (is_well_formed x.program) → IsStep x → (view : ℕ)
         → FitsParts x.program (meaning_of (sig_at x consts reads) x) (before_at view) (plain x.old) }
@@ -39,6 +46,8 @@ pub fn structures_fit()
         → FitsParts x.program (meaning_of (sig_at x consts reads) x) (after_at view) (plain x.new) }
     ensures views { (x : Step) (consts : List ℕ) (reads : ℕ) → IsTrue (is_well_formed x.program) → IsStep x
         → AreViews x (meaning_of (sig_at x consts reads) x) }
+    ensures stages { (x : Step) (consts : List ℕ) (reads : ℕ) → IsTrue (is_well_formed x.program) → IsStep x → (slots : List (Option Val))
+        → AreStages x (meaning_of (sig_at x consts reads) x) slots }
     ensures snapshots { (x : Step) → IsTrue (is_well_formed x.program) → IsStep x → AreSnapshots x }
 {}
 
@@ -55,4 +64,11 @@ pub fn tables_hold()
     ensures sets { (f : ℕ → Bool) (n c : ℕ) → is_related (Some (set_relation f n)) (one_point c) ≡ (f c && nat_lt c n) }
     ensures pairs { (f : ℕ → ℕ → Bool) (n c d : ℕ) → c < n → d < n → is_related (Some (pair_relation f n)) (two_points c d) ≡ f c d }
     ensures functions { (f : ℕ → Elem) (n c : ℕ) → c < n → apply (Some (table f n)) (one_point c) ≡ f c }
+{}
+
+/// Each element of a type's sort is that of a value of the type.
+pub fn elements_are_values()
+    ensures { (x : Step) (consts : List ℕ) (reads : ℕ) → IsTrue (is_well_formed x.program) → (t : Ty) → IsTrue (is_ordinary x.program.types t)
+        → (e : Elem) → Is (meaning_of (sig_at x consts reads) x) (sort_of x.program t) e
+        → (v : Val) × (fits x.program t v ≡ true) × (elem_of v ≡ e) }
 {}

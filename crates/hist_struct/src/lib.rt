@@ -4,4 +4,7 @@
 
 mod laws;
 
-pub use laws::{axioms_are_exact, axioms_hold, labels_are_steps, structures_fit, tables_hold};
+pub use laws::{
+    axioms_are_exact, axioms_hold, elements_are_values, labels_are_steps, structures_fit,
+    tables_hold,
+};

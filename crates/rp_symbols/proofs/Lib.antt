@@ -1,2 +1,3 @@
 pub mod LookUps
 pub mod Stand
+pub mod StandToo

@@ -1,13 +1,18 @@
 //! Laws of the definitions, as functions with nothing to run.
-ghost use Rattle.std.specs.Prelude.{◌≡◌, ◌<◌, ℕ, List, [], ◌∷◌, length, map, Some, slice_get};
+ghost use Rattle.std.specs.Prelude.{◌≡◌, ◌<◌, ◌+◌, ◌-◌, ℕ, true, List, [], ◌∷◌, length, map, Some, slice_get};
+ghost use Rattle.rp_value.specs.declared.tables.AtomType.{AtomType};
 ghost use Rattle.rp_value.specs.declared.tables.ConDecl.{ConDecl};
 ghost use Rattle.rp_value.specs.declared.tables.DataDecl.{DataDecl};
 ghost use Rattle.rp_lang.specs.declared.op.OpDecl.{OpDecl};
+ghost use Rattle.rp_lang.specs.declared.query.QueryDecl.{QueryDecl};
+ghost use Rattle.rp_lang.specs.Typing.{is_get};
 ghost use Rattle.rp_lang.specs.Programs.{Prog, Proc};
 ghost use Rattle.rp_logic.specs.declared.sort.Sort.TheVariants.{Plain, Int, Str, Datatype};
-ghost use Rattle.rp_symbols.specs.Numbers.{atom_sort, int_sort, str_sort, data_sort, op_sort, info_sort, outcome_sort};
+ghost use Rattle.rp_symbols.specs.Numbers.{call_sort, inv_sort, atom_sort, int_sort, str_sort, data_sort, op_sort, info_sort, outcome_sort};
 ghost use Rattle.rp_symbols.specs.Numbers.{op_con, info_con, unreturned_con, outcome_con};
-ghost use Rattle.rp_symbols.specs.Signatures.{sort_of, from, con_of, result_list, sig_of};
+ghost use Rattle.rp_symbols.specs.Numbers.{old_rel, new_rel, was_rel, there_rel, before_rel, stamp_rel, same_rel, snapshot_rel, part_rel, id_rel, seen_rel, read_rel};
+ghost use Rattle.rp_symbols.specs.Numbers.{op_fn, origin_fn, info_fn, old_result_fn, new_result_fn, add_fn, sub_fn, view_place, val_fn};
+ghost use Rattle.rp_symbols.specs.Signatures.{sort_of, from, con_of, result_list, fn_of, sig_of};
 
 /// Each sort stands at its number, and the datatypes of records have their constructors.
 pub fn sorts_stand_at_their_numbers()
@@ -35,4 +40,43 @@ pub fn constructors_stand_at_their_numbers()
     ensures unreturned { (p : Prog) (views : ℕ) → slice_get (sig_of p views).cons (unreturned_con p) ≡ Some (con_of (outcome_sort p) []) }
     ensures outcomes { (p : Prog) (views proc : ℕ) (q : Proc) → slice_get p.procs proc ≡ Some q
         → slice_get (sig_of p views).cons (outcome_con p proc) ≡ Some (con_of (outcome_sort p) (map (sort_of p) (result_list q.result))) }
+{}
+
+/// Each relation stands at its number, with the sorts of its arguments.
+pub fn relations_stand_at_their_numbers()
+    ensures sets { (p : Prog) (views : ℕ)
+        → (slice_get (sig_of p views).rels old_rel ≡ Some (call_sort ∷ [])) × (slice_get (sig_of p views).rels new_rel ≡ Some (call_sort ∷ []))
+        × (slice_get (sig_of p views).rels snapshot_rel ≡ Some (call_sort ∷ [])) × (slice_get (sig_of p views).rels part_rel ≡ Some (call_sort ∷ [])) }
+    ensures invocations { (p : Prog) (views : ℕ)
+        → (slice_get (sig_of p views).rels was_rel ≡ Some (inv_sort ∷ [])) × (slice_get (sig_of p views).rels there_rel ≡ Some (inv_sort ∷ [])) }
+    ensures pairs { (p : Prog) (views : ℕ)
+        → (slice_get (sig_of p views).rels before_rel ≡ Some (call_sort ∷ call_sort ∷ []))
+        × (slice_get (sig_of p views).rels stamp_rel ≡ Some (call_sort ∷ call_sort ∷ []))
+        × (slice_get (sig_of p views).rels same_rel ≡ Some (call_sort ∷ call_sort ∷ [])) }
+    ensures in_operations { (p : Prog) (views ty : ℕ) (atom : AtomType) → slice_get p.types.atoms ty ≡ Some atom → atom.is_id ≡ true
+        → slice_get (sig_of p views).rels (id_rel p ty 0) ≡ Some (call_sort ∷ atom_sort ty ∷ []) }
+    ensures in_arguments { (p : Prog) (views ty : ℕ) (atom : AtomType) → slice_get p.types.atoms ty ≡ Some atom → atom.is_id ≡ true
+        → slice_get (sig_of p views).rels (id_rel p ty 1) ≡ Some (inv_sort ∷ atom_sort ty ∷ []) }
+    ensures in_results { (p : Prog) (views ty : ℕ) (atom : AtomType) → slice_get p.types.atoms ty ≡ Some atom → atom.is_id ≡ true
+        → slice_get (sig_of p views).rels (id_rel p ty 2) ≡ Some (inv_sort ∷ atom_sort ty ∷ []) }
+    ensures seen { (p : Prog) (views k : ℕ) → k < views - 1 → slice_get (sig_of p views).rels (seen_rel p k) ≡ Some (call_sort ∷ []) }
+    ensures read { (p : Prog) (views k : ℕ) → k < views - 1 → slice_get (sig_of p views).rels (read_rel p k) ≡ Some (call_sort ∷ []) }
+{}
+
+/// Each function stands at its number, with the sorts of its arguments and of its result; that of a query at each relation
+/// that is a view.
+pub fn functions_stand_at_their_numbers()
+    ensures calls { (p : Prog) (views : ℕ)
+        → (slice_get (sig_of p views).fns op_fn ≡ Some (fn_of (call_sort ∷ []) (op_sort p)))
+        × (slice_get (sig_of p views).fns origin_fn ≡ Some (fn_of (call_sort ∷ []) inv_sort)) }
+    ensures invocations { (p : Prog) (views : ℕ)
+        → (slice_get (sig_of p views).fns info_fn ≡ Some (fn_of (inv_sort ∷ []) (info_sort p)))
+        × (slice_get (sig_of p views).fns old_result_fn ≡ Some (fn_of (inv_sort ∷ []) (outcome_sort p)))
+        × (slice_get (sig_of p views).fns new_result_fn ≡ Some (fn_of (inv_sort ∷ []) (outcome_sort p))) }
+    ensures numbers { (p : Prog) (views : ℕ)
+        → (slice_get (sig_of p views).fns add_fn ≡ Some (fn_of (int_sort p ∷ int_sort p ∷ []) (int_sort p)))
+        × (slice_get (sig_of p views).fns sub_fn ≡ Some (fn_of (int_sort p ∷ int_sort p ∷ []) (int_sort p))) }
+    ensures values { (p : Prog) (views view n : ℕ) (query : QueryDecl) → slice_get p.queries n ≡ Some query → is_get query.kind ≡ true
+        → view_place p view < 3 + (views - 1 + (views - 1))
+        → slice_get (sig_of p views).fns (val_fn p view n) ≡ Some (fn_of (map (sort_of p) query.args) (sort_of p query.result)) }
 {}

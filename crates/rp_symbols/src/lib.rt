@@ -4,4 +4,7 @@
 mod laws;
 pub mod rows;
 
-pub use laws::{constructors_stand_at_their_numbers, sorts_stand_at_their_numbers};
+pub use laws::{
+    constructors_stand_at_their_numbers, functions_stand_at_their_numbers,
+    relations_stand_at_their_numbers, sorts_stand_at_their_numbers,
+};
