@@ -43,4 +43,5 @@ mod Invariants
 mod Within
 mod InsideStmts
 mod ProcPlaces
+mod Crdts
 mod Members

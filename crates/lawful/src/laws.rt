@@ -9,7 +9,7 @@ ghost use Rattle.rp_grammar.specs.Texts.{IsText};
 ghost use Rattle.rp_lang.specs.Exprs.{Ex};
 ghost use Rattle.rp_lang.specs.Formulas.{Arms};
 ghost use Rattle.rp_lang.specs.Programs.{Inv, Prog};
-ghost use Rattle.rp_lang.specs.WellFormed.{are_invs, returns_a_value};
+ghost use Rattle.rp_lang.specs.WellFormed.{are_invs, are_roots, returns_a_value};
 ghost use Rattle.rp_lang.specs.Types.{bool_ty, datatype_of, fields_of};
 ghost use Rattle.rp_lang.specs.Typing.{Frame, are_cases, arm_cons, in_invariant, is_range, is_typed, op_args};
 ghost use Rattle.type_rules.specs.declared.kind.Kind.{Kind as TheKind};
@@ -137,4 +137,10 @@ pub fn places_are_kept()
     ensures { (bytes : List ℕ) (tree : List DeclTree) → IsText bytes tree → IsLawful tree
         → AllByRecursion (λ (d : ProcDecl). AllKept (names_of tree) (may_speak tree) (proc_sites (names_of tree) d.decl d.tree))
         (procs_from 0 tree) }
+{}
+
+/// The roots of a lawful text whose program passes no limit are well formed.
+pub fn roots_are_well_formed()
+    ensures { (bytes : List ℕ) (tree : List DeclTree) → IsText bytes tree → (p : Prog) → HasProgram tree p
+        → are_roots p.types p.roots ≡ true }
 {}
