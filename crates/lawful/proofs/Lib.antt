@@ -44,4 +44,5 @@ mod Within
 mod InsideStmts
 mod ProcPlaces
 mod Crdts
+mod ProcHeads
 mod Members
