@@ -11,7 +11,7 @@ ghost use Rattle.rp_lang.specs.Formulas.{Arms};
 ghost use Rattle.rp_lang.specs.Programs.{Inv, Proc, Prog};
 ghost use Rattle.rp_lang.specs.Sizes.{sts_count};
 ghost use Rattle.rp_lang.specs.WellFormed.{are_invs, are_roots, begins, returns_a_value};
-ghost use Rattle.rp_lang.specs.Types.{bool_ty, datatype_of, fields_of};
+ghost use Rattle.rp_lang.specs.Types.{bool_ty, datatype_of, fields_of, has_bool};
 ghost use Rattle.rp_lang.specs.Typing.{Frame, are_cases, arm_cons, in_invariant, is_range, is_typed, op_args};
 ghost use Rattle.type_rules.specs.declared.kind.Kind.{Kind as TheKind};
 ghost use Rattle.type_rules.specs.Names.{Name, Entry, same_name, text_of, type_named, type_number, entry_named};
@@ -74,6 +74,7 @@ pub fn first_entries()
         → (datatype_of p.cons 0 ≡ Some bool_ty) × (fields_of p.cons 0 ≡ []) }
     ensures yes { (tree : List DeclTree) (p : Prog) → IsProgramOf tree p
         → (datatype_of p.cons 1 ≡ Some bool_ty) × (fields_of p.cons 1 ≡ []) }
+    ensures truths { (tree : List DeclTree) (p : Prog) → IsProgramOf tree p → has_bool p.types p.cons ≡ true }
     ensures markers { (tree : List DeclTree) (p : Prog) → IsProgramOf tree p
         → (nat_lt 0 (length p.ops) ≡ true) × (op_args (slice_get p.ops 0) ≡ []) }
 {}
