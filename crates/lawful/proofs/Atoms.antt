@@ -48,10 +48,10 @@ fewer (e ∷ es) (suc i) entry atom is made = by_atom es i (atom_in e) (fewer es
   by_atom es i (Some a) lt = omega (arith, lt)
 
 -- what the type of a name is
-abbrev Range : Prog → Ty → Type 0
+abbrev pub Range : Prog → Ty → Type 0
 Range p of = (f : Frame) → is_range p f of ≡ true
 
-atom_sort : (t : Tables) (p : Prog) → p.types ≡ type_table t → (type : ℕ) (entry : TypeEntry) → slice_get t.names.types type ≡ Some entry
+pub atom_sort : (t : Tables) (p : Prog) → p.types ≡ type_table t → (type : ℕ) (entry : TypeEntry) → slice_get t.names.types type ≡ Some entry
     → is_datatype (Some entry) ≡ false → (of : Ty) → sort_ty t type entry.sort ≡ Some of → Range p of
 atom_sort t p types type entry is bare of e = by_sort t p types type entry entry.sort refl is bare of e where
   ranges : (t : Tables) (p : Prog) → p.types ≡ type_table t → (type : ℕ) (entry : TypeEntry) (atom : AtomType) → slice_get t.names.types type ≡ Some entry

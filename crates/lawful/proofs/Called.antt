@@ -27,8 +27,8 @@ by_what tree p is words vs x steps i name decl (Declared.root crdt) there named 
 by_what tree p is words vs x steps i name decl (Declared.query q) there named other c e = absurd cc
 by_what tree p is words vs x steps i name decl (Declared.proc q) there named other c e =
     proc_called tree p words is.0 is.1.procs vs x steps i name decl q there c e
-by_what tree p is words vs x steps i name decl (Declared.con type con) there named other c e =
-    con_called (tables_of tree) p words is.1.cons (cases_differ tree is.0) vs x steps name decl type con
+by_what tree p is words vs x steps i name decl (Declared.con type made) there named other c e =
+    con_called (tables_of tree) p words is.1.cons (cases_differ tree is.0) vs x steps name decl type made
     (at_place (IsConIn (names_of tree).types) (names_of tree).entries i _ (con_entries tree) there) c e
 
 by_entry : (tree : List DeclTree) (p : Prog) → IsProgramOf tree p → (words : ℕ → Bool) (vs : Vars) (x : Ident) (steps : StepTrees) (c : Called Ex)

@@ -129,7 +129,7 @@ wider : (a b c : Bool) → (b ≡ true → c ≡ true) → (a || b) ≡ true →
 wider true b c f e = refl
 wider false b c f e = f e
 
-either_false : (a b : Bool) → a ≡ false → b ≡ false → (a || b) ≡ false
+pub either_false : (a b : Bool) → a ≡ false → b ≡ false → (a || b) ≡ false
 either_false true b e h = absurd cc
 either_false false b e h = h
 

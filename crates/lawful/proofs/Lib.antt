@@ -43,4 +43,6 @@ mod Invariants
 mod Within
 mod InsideStmts
 mod ProcPlaces
+mod Crdts
+mod ProcHeads
 mod Members

@@ -1,6 +1,6 @@
 //! Laws of the definitions. The functions do nothing; what they ensure is proved.
 
-ghost use Rattle.std.specs.Prelude.{◌≡◌, ℕ, Bool, true, false, nat_eq, nat_lt, List, [], length, map, Option, Some, is_some, slice_get};
+ghost use Rattle.std.specs.Prelude.{◌≡◌, ℕ, Bool, true, false, ◌&&◌, nat_eq, nat_le, nat_lt, List, [], length, map, Option, Some, is_some, slice_get};
 ghost use Rattle.std.specs.List.{AllByRecursion, IsDistinct, list_all};
 ghost use Rattle.rp_span.specs.declared.Span.{Span};
 ghost use Rattle.rp_value.specs.declared.tables.Ty.{Ty};
@@ -8,9 +8,10 @@ ghost use Rattle.rp_grammar.specs.Trees.{Ident, PatternTree, StepTrees, ExprTree
 ghost use Rattle.rp_grammar.specs.Texts.{IsText};
 ghost use Rattle.rp_lang.specs.Exprs.{Ex};
 ghost use Rattle.rp_lang.specs.Formulas.{Arms};
-ghost use Rattle.rp_lang.specs.Programs.{Inv, Prog};
-ghost use Rattle.rp_lang.specs.WellFormed.{are_invs, returns_a_value};
-ghost use Rattle.rp_lang.specs.Types.{bool_ty, datatype_of, fields_of};
+ghost use Rattle.rp_lang.specs.Programs.{Inv, Proc, Prog};
+ghost use Rattle.rp_lang.specs.Sizes.{sts_count};
+ghost use Rattle.rp_lang.specs.WellFormed.{are_invs, are_roots, begins, returns_a_value};
+ghost use Rattle.rp_lang.specs.Types.{bool_ty, datatype_of, fields_of, has_bool};
 ghost use Rattle.rp_lang.specs.Typing.{Frame, are_cases, arm_cons, in_invariant, is_range, is_typed, op_args};
 ghost use Rattle.type_rules.specs.declared.kind.Kind.{Kind as TheKind};
 ghost use Rattle.type_rules.specs.Names.{Name, Entry, same_name, text_of, type_named, type_number, entry_named};
@@ -73,6 +74,7 @@ pub fn first_entries()
         → (datatype_of p.cons 0 ≡ Some bool_ty) × (fields_of p.cons 0 ≡ []) }
     ensures yes { (tree : List DeclTree) (p : Prog) → IsProgramOf tree p
         → (datatype_of p.cons 1 ≡ Some bool_ty) × (fields_of p.cons 1 ≡ []) }
+    ensures truths { (tree : List DeclTree) (p : Prog) → IsProgramOf tree p → has_bool p.types p.cons ≡ true }
     ensures markers { (tree : List DeclTree) (p : Prog) → IsProgramOf tree p
         → (nat_lt 0 (length p.ops) ≡ true) × (op_args (slice_get p.ops 0) ≡ []) }
 {}
@@ -135,6 +137,20 @@ pub fn invariants_are_well_formed()
 /// a query that doesn't speak of calls.
 pub fn places_are_kept()
     ensures { (bytes : List ℕ) (tree : List DeclTree) → IsText bytes tree → IsLawful tree
-        → AllByRecursion (λ (d : ProcDecl). AllKept (names_of tree) (may_speak tree) (proc_sites (names_of tree) d.decl d.tree))
-        (procs_from 0 tree) }
+        → AllByRecursion
+        (λ (d : ProcDecl). AllKept (names_of tree) (may_speak tree) (proc_sites (names_of tree) d.decl d.tree)) (procs_from 0 tree) }
+{}
+
+/// The roots of a lawful text whose program passes no limit are well formed.
+pub fn roots_are_well_formed()
+    ensures { (bytes : List ℕ) (tree : List DeclTree) → IsText bytes tree → (p : Prog) → HasProgram tree p
+        → are_roots p.types p.roots ≡ true }
+{}
+
+/// In a lawful text's program that passes no limit, procedures are few and short, their first slots
+/// are their parameters, and those with a result return on every path.
+pub fn procedures_begin_well()
+    ensures { (tree : List DeclTree) (p : Prog) → HasProgram tree p
+        → (nat_le (length p.procs) 64
+        && list_all (λ (q : Proc). begins q.params q.slots && nat_le (sts_count q.body) 200 && returns_a_value q) p.procs) ≡ true }
 {}
