@@ -12,8 +12,10 @@ pub mod MoveFacts
 pub mod PlaceExact
 pub mod PlaceLaws
 pub mod RegisterCounts
+pub mod RegisterEnds
 pub mod RegisterExact
 pub mod RegisterForms
+pub mod RegisterMet
 pub mod ResultExact
 pub mod ResultLaws
 pub mod SetFacts
