@@ -139,7 +139,7 @@ module _ (p : Prog) (formed : is_well_formed p ≡ true) (M : Meaning) (h : List
       let a = and_parts (is_ordinary p.types t) _ o in
       let v = values t a.0 e i in
       each-values tys (given ++ e ∷ []) P a.1 (λ vs f.
-          subst P (ap (λ e. given ++ e ∷ map elem_of vs) v.2 ∙ sym (append_assoc given (e ∷ []) (map elem_of vs))) (k (v.0 ∷ vs) (and_from (fits p t v.0) _ v.1 f)))
+      subst P (ap (λ e. given ++ e ∷ map elem_of vs) v.2 ∙ sym (append_assoc given (e ∷ []) (map elem_of vs))) (k (v.0 ∷ vs) (and_from (fits p t v.0) _ v.1 f)))
 
   -- what the last assign assigns
   record Own (w : Way Both) (x : Val) (c : ℕ) : Type 0 where
