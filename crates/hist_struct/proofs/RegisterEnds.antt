@@ -1,9 +1,8 @@
 -- Along the path of a register's query: the way to the register, its keys, and what is asked there.
-use Rattle.std.proofs.Common.{◌≡◌, ℕ, ◌⊎◌, List, [], ◌∷◌, Bool, true, Option, Some, None, slice_get, refl, sym, ap, ◌∙◌, subst}
+use Rattle.std.proofs.Common.{◌≡◌, ℕ, List, [], ◌∷◌, Bool, true, Option, Some, None, refl, sym, ap, ◌∙◌, subst}
 use Rattle.std.proofs.lemmas.Bool.{and_parts, and_from}
 use Rattle.std.proofs.lemmas.Option.{same_Some}
 use Rattle.rp_value.specs.declared.tables.Ty.{Ty}
-use Rattle.rp_value.specs.Values.{Val}
 use Rattle.rp_lang.specs.Crdts.{Cr, SetAw, SetRw, Reg, MvReg, Counter, MapUw, MapDw, Struct}
 use Rattle.rp_lang.specs.Paths.{is_crdt, held_at, field_in, reached, own_args, query_stands}
 use Rattle.rp_lang.specs.Types.{same_ty, is_ordinary, are_ordinary}
@@ -27,7 +26,7 @@ use Rattle.crdt_enc.specs.means.Counting.{Both, terms, counted, KeysRead, WayFit
 use Rattle.crdt_enc.proofs.AskLaws.{terms_of, vals_of, AllRead}
 use Rattle.crdt_enc.proofs.ProgramLaws.{WayAlong, IsMap, key-fits, along-field, along-key, asked-key}
 use Rattle.crdt_enc.proofs.StageFacts.{in-field, none-taken}
-use Rattle.hist_struct.specs.Registers.{Register, register_here, register_at}
+use Rattle.hist_struct.specs.Registers.{register_here, register_at}
 
 -- the register at the end of the path, and the way there
 pub record RegEnd (p : Prog) (h : List Call) (visible : ℕ → Bool) (crdt : Option Cr) (path : List PathStep) (w : Way Both) (args : List Both) : Type 0 where

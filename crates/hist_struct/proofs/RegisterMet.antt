@@ -1,5 +1,5 @@
 -- At a stage the condition on registers holds.
-use Rattle.std.proofs.Common.{◌≡◌, ℕ, zero, suc, ◌+◌, ◌<◌, Bool, true, false, not, ◌&&◌, List, [], ◌∷◌, ◌++◌, length, map, get_or, Option, Some, None, slice_get, refl, sym, ap, ap₂, ◌∙◌, subst, append_assoc, true≢false, arith}
+use Rattle.std.proofs.Common.{◌≡◌, ℕ, zero, suc, ◌<◌, Bool, true, ◌&&◌, List, [], ◌∷◌, ◌++◌, length, map, get_or, Option, Some, None, slice_get, refl, sym, ap, ap₂, ◌∙◌, subst, append_assoc, true≢false, arith}
 use Rattle.std.proofs.lemmas.Bool.{and_parts, and_from}
 use Rattle.std.proofs.lemmas.List.{append-nil}
 use Rattle.std.proofs.lemmas.Option.{same_Some}
@@ -18,7 +18,7 @@ use Rattle.rp_lang.specs.declared.op.PathStep.TheVariants.{Field, Key}
 use Rattle.rp_lang.specs.declared.query.QueryDecl.{QueryDecl}
 use Rattle.rp_lang.specs.declared.query.QueryKind.{QueryKind}
 use Rattle.rp_lang.specs.declared.query.QueryKind.TheVariants.{Contains, HasKey, GetReg, GetSum}
-use Rattle.rp_lang.proofs.ProgramFacts.{Facts, facts, op-is}
+use Rattle.rp_lang.proofs.ProgramFacts.{facts, op-is}
 use Rattle.rp_lang.proofs.TypeFacts.{each}
 use Rattle.crdt_lib.specs.Calls.{Call}
 use Rattle.crdt_lib.specs.Doing.{same_kind, is_of, does, keys_in, own_of, own_argument, on_root, goes_to_field, goes_to_key}
@@ -39,9 +39,8 @@ use Rattle.rp_logic.proofs.ElementLaws.{same-is, is-same}
 use Rattle.rp_logic.proofs.SortLaws.{no}
 use Rattle.rp_symbols.specs.Numbers.{stamp_rel, val_fn}
 use Rattle.rp_symbols.specs.Signatures.{sort_of}
-use Rattle.crdt_enc.specs.Elements.{elem_of, elems, elems_of}
+use Rattle.crdt_enc.specs.Elements.{elem_of, elems_of}
 use Rattle.crdt_enc.specs.FitsParts.{FitsCalls, FitsView, Is, holds_of_two, applied_to}
-use Rattle.crdt_enc.specs.QueryFormulas.{passes, is_kind}
 use Rattle.crdt_enc.specs.Ways.{Way, Root, AtField, AtKey, depth, goes}
 use Rattle.crdt_enc.specs.means.Counting.{Both, terms, counted, matches, KeysRead, CallsFit}
 use Rattle.crdt_enc.proofs.AskFacts.{ops-stand}
@@ -54,9 +53,9 @@ use Rattle.crdt_enc.proofs.ValueLaws.{one-value}
 use Rattle.crdt_enc.proofs.WayLaws as ways
 use Rattle.crdt_enc.proofs.WayLaws.{call-and, call-there, matches-is, value-there}
 use Rattle.hist_struct.specs.QueryValues.{answered}
-use Rattle.hist_struct.specs.Registers.{mapped, Register, register_at, register_of, is_register, NoneAssigns, IsLatest, EachIn, GivesSome, GivesNone, RegisterTells, Told, RegistersTell}
+use Rattle.hist_struct.specs.Registers.{mapped, Register, register_of, is_register, NoneAssigns, IsLatest, EachIn, GivesSome, GivesNone, RegisterTells, Told, RegistersTell}
 use Rattle.hist_struct.specs.Steps.{is_lesser}
-use Rattle.hist_struct.proofs.LatestFacts.{IsLast, none-of, last-of}
+use Rattle.hist_struct.proofs.LatestFacts.{none-of, last-of}
 use Rattle.hist_struct.proofs.RegisterCounts.{none-counts, latest-counts}
 use Rattle.hist_struct.proofs.RegisterEnds.{RegEnd, reg-end, keys-ordinary}
 use Rattle.hist_struct.proofs.RegisterExact.{Agree, moved, at-reads}

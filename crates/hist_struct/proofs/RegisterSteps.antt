@@ -1,5 +1,5 @@
 -- The axiom of registers in the structure of every step.
-use Rattle.std.proofs.Common.{◌≡◌, ◌↔◌, ℕ, zero, suc, ◌<◌, Bool, true, List, [], ◌∷◌, ◌++◌, length, nat_lt, slice_get, sym, ap₂, ◌∙◌, subst, inl, inr, arith}
+use Rattle.std.proofs.Common.{◌≡◌, ◌↔◌, ℕ, zero, suc, ◌<◌, Bool, true, List, [], ◌++◌, length, nat_lt, slice_get, sym, ap₂, ◌∙◌, subst, inl, inr, arith}
 use Rattle.rp_value.specs.declared.tables.Ty.{Ty}
 use Rattle.rp_value.specs.Values.{Val}
 use Rattle.rp_lang.specs.Types.{is_ordinary}
@@ -9,7 +9,6 @@ use Rattle.rp_lang.proofs.ProgramFacts.{facts}
 use Rattle.crdt_lib.specs.Fitting.{fits}
 use Rattle.crdt_lib.specs.Histories.{meets}
 use Rattle.event_machine.specs.Machine.{State}
-use Rattle.event_machine.specs.WellFormed.{At}
 use Rattle.event_machine.specs.Growth.{IsValid}
 use Rattle.event_machine.proofs.PlaceLemmas.{at-lt, at-exists, same-or}
 use Rattle.rp_logic.specs.Elements.{Elem, Point}

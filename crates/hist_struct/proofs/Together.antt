@@ -1,19 +1,9 @@
 -- All axioms together.
-use Rattle.std.proofs.Common.{◌≡◌, ◌<◌, ℕ, true, List, [], ◌∷◌, refl, sym, subst}
+use Rattle.std.proofs.Common.{◌≡◌, ℕ, true, List, [], ◌∷◌}
 use Rattle.rp_lang.specs.WellFormed.{is_well_formed}
-use Rattle.crdt_lib.specs.Parts.{Parts}
-use Rattle.event_machine.specs.Machine.{plain}
-use Rattle.crdt_enc.specs.Places.{At}
-use Rattle.crdt_enc.specs.FitsParts.{FitsParts}
-use Rattle.hist_struct.specs.Snapshots.{before_at, after_at}
-use Rattle.hist_struct.specs.means.Fitting.{FitsMost, FitsAtoms}
 use Rattle.hist_struct.proofs.SigLaws.{sig-is}
-use Rattle.hist_struct.proofs.FitLaws.{fits-before, fits-after}
-use Rattle.hist_struct.proofs.AtomLaws.{atoms-fit}
-use Rattle.hist_struct.proofs.MoveFacts.{kept}
 use Rattle.rp_lang.specs.Programs.{Prog}
 use Rattle.rp_logic.specs.Formulas.{Fm}
-use Rattle.rp_logic.specs.Signatures.{Signature}
 use Rattle.rp_logic.specs.Truth.{Meaning, AllTrue}
 use Rattle.hist_struct.specs.Steps.{Step, begins, IsStep}
 use Rattle.hist_struct.proofs.StepPrograms.{program-is}
