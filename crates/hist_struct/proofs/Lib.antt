@@ -9,11 +9,15 @@ pub mod Implied
 pub mod LatestFacts
 pub mod MarkFacts
 pub mod MoveFacts
+pub mod PartLaws
 pub mod PlaceExact
 pub mod PlaceLaws
 pub mod RegisterCounts
+pub mod RegisterEnds
 pub mod RegisterExact
 pub mod RegisterForms
+pub mod RegisterMet
+pub mod RegisterSteps
 pub mod ResultExact
 pub mod ResultLaws
 pub mod SetFacts

@@ -66,7 +66,7 @@ raised-way (AtField n way) M e base = ap (λ way. AtField n way) (raised-way way
 raised-way (ways.AtKey winner key way) M e base =
     ap₂ (λ key way. ways.AtKey winner key way) (raised-value key M (e ∷ []) base 1 refl) (raised-way way M e base)
 
-abbrev moved : Meaning → List Elem → Register Tm → Register Elem
+abbrev pub moved : Meaning → List Elem → Register Tm → Register Elem
 moved M base r = record { ty = r.ty; way = mapped (value M base) r.way }
 
 module _ (p : Prog) (M : Meaning) (view n : ℕ) (result : Ty) (given : List Tm) (keys base : List Elem) (e : map (value M base) given ≡ keys) where
@@ -119,7 +119,7 @@ module _ (p : Prog) (M : Meaning) (view n : ℕ) (result : Ty) (given : List Tm)
 -- # Along the path
 
 -- the register at the keys' elements is that at their terms
-abbrev Agree : Meaning → List Elem → Option (Register Tm) → Option (Register Elem) → Type 0
+abbrev pub Agree : Meaning → List Elem → Option (Register Tm) → Option (Register Elem) → Type 0
 Agree M base None None = Unit {0}
 Agree M base None (Some r) = ⊥
 Agree M base (Some q) None = ⊥
@@ -135,7 +135,7 @@ here-reads M base (MapUw keys held) way = tt
 here-reads M base (MapDw keys held) way = tt
 here-reads M base (Struct fields) way = tt
 
-at-reads : (M : Meaning) (base : List Elem) (crdt : Option Cr) (path : List PathStep) (way : Way Tm) (given : List Tm)
+pub at-reads : (M : Meaning) (base : List Elem) (crdt : Option Cr) (path : List PathStep) (way : Way Tm) (given : List Tm)
     → Agree M base (register_at crdt path way given) (register_at crdt path (mapped (value M base) way) (map (value M base) given))
 at-reads M base None path way given = tt
 at-reads M base (Some crdt) [] way given = here-reads M base crdt way

@@ -33,7 +33,7 @@ use Rattle.hist_struct.specs.Snapshots.{before_at, after_at, reading, AreStages}
 use Rattle.hist_struct.specs.Steps.{Step, IsStep, is_done, is_part, is_seen, is_read}
 use Rattle.hist_struct.specs.Structure.{sig_at, meaning_of}
 use Rattle.hist_struct.proofs.FitLaws.{map-at, map-length}
-use Rattle.hist_struct.proofs.Together.{before-fits, after-fits}
+use Rattle.hist_struct.proofs.PartLaws.{before-fits, after-fits}
 use Rattle.hist_struct.proofs.ValueFacts.{table-is}
 use Rattle.hist_struct.proofs.ValueNumbers.{old-found, snapshot-found, part-found, seen-found, read-found}
 use Rattle.hist_struct.proofs.ViewLaws.{views-fit}

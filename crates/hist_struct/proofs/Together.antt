@@ -1,24 +1,16 @@
 -- All axioms together.
-use Rattle.std.proofs.Common.{◌≡◌, ◌<◌, ℕ, true, List, [], ◌∷◌, refl, sym, subst}
+use Rattle.std.proofs.Common.{◌≡◌, ℕ, true, List, [], ◌∷◌}
 use Rattle.rp_lang.specs.WellFormed.{is_well_formed}
-use Rattle.crdt_lib.specs.Parts.{Parts}
-use Rattle.event_machine.specs.Machine.{plain}
-use Rattle.crdt_enc.specs.Places.{At}
-use Rattle.crdt_enc.specs.FitsParts.{FitsParts}
-use Rattle.hist_struct.specs.Snapshots.{before_at, after_at}
-use Rattle.hist_struct.specs.means.Fitting.{FitsMost, FitsAtoms}
 use Rattle.hist_struct.proofs.SigLaws.{sig-is}
-use Rattle.hist_struct.proofs.FitLaws.{fits-before, fits-after}
-use Rattle.hist_struct.proofs.AtomLaws.{atoms-fit}
-use Rattle.hist_struct.proofs.MoveFacts.{kept}
 use Rattle.rp_lang.specs.Programs.{Prog}
 use Rattle.rp_logic.specs.Formulas.{Fm}
-use Rattle.rp_logic.specs.Signatures.{Signature}
 use Rattle.rp_logic.specs.Truth.{Meaning, AllTrue}
 use Rattle.hist_struct.specs.Steps.{Step, begins, IsStep}
-use Rattle.hist_struct.proofs.StepPrograms.{IsProgram, program-is}
-use Rattle.hist_struct.specs.Structure.{IsSig, sig_at, meaning_of}
+use Rattle.hist_struct.proofs.StepPrograms.{program-is}
+use Rattle.hist_struct.specs.Structure.{sig_at, meaning_of}
 use Rattle.hist_struct.specs.Axioms.{before_orders, stamps_order, transactions_part, transactions_are_whole, commits_grow, views_grow, own_calls_in_line, results_stay, places_are_told, arguments_were_results, markers_stand}
+use Rattle.hist_struct.specs.Registers.{registers_are_told}
+use Rattle.hist_struct.proofs.RegisterSteps.{registers_are_told-exact, registers_are_told-met}
 use Rattle.hist_struct.specs.Holding.{AreExact, AreMet, gathered, axioms}
 use Rattle.hist_struct.proofs.Implied.{all-both}
 use Rattle.hist_struct.proofs.Exact.{before_orders-exact, stamps_order-exact, transactions_part-exact, transactions_are_whole-exact, commits_grow-exact, views_grow-exact, own_calls_in_line-exact, markers_stand-exact}
@@ -42,23 +34,28 @@ exact p begins M = record {
   places_are_told = places_are_told-exact p M;
   arguments_were_results = arguments_were_results-exact p M;
   markers_stand = markers_stand-exact p M;
+  registers_are_told = registers_are_told-exact p begins M;
   registers_tell = registers_tell-exact p M;
 }
 
-pub met : (S : Signature) (x : Step) → IsSig S → IsProgram x.program → IsStep x → AreMet x.program (begins x) (meaning_of S x)
-met S x g k m = record {
-  before_orders = before_orders-met S g x k m;
-  stamps_order = stamps_order-met S g x k m;
-  transactions_part = transactions_part-met S g x k m;
-  transactions_are_whole = transactions_are_whole-met S g x k m;
-  commits_grow = commits_grow-met S g x k m;
-  views_grow = views_grow-met S g x k m;
-  own_calls_in_line = own_calls_in_line-met S g x k m;
-  results_stay = results_stay-met S g x k m;
-  places_are_told = places_are_told-met S g x k m;
-  arguments_were_results = arguments_were_results-met S g x k m;
-  markers_stand = markers_stand-met S g x k m;
-}
+pub met : (x : Step) (consts : List ℕ) (reads : ℕ) → is_well_formed x.program ≡ true → IsStep x → AreMet x.program (begins x) (meaning_of (sig_at x consts reads) x)
+met x consts reads w m =
+    let g = sig-is x.program x.views consts reads in
+    let k = program-is x.program w in
+    record {
+      before_orders = before_orders-met (sig_at x consts reads) g x k m;
+      stamps_order = stamps_order-met (sig_at x consts reads) g x k m;
+      transactions_part = transactions_part-met (sig_at x consts reads) g x k m;
+      transactions_are_whole = transactions_are_whole-met (sig_at x consts reads) g x k m;
+      commits_grow = commits_grow-met (sig_at x consts reads) g x k m;
+      views_grow = views_grow-met (sig_at x consts reads) g x k m;
+      own_calls_in_line = own_calls_in_line-met (sig_at x consts reads) g x k m;
+      results_stay = results_stay-met (sig_at x consts reads) g x k m;
+      places_are_told = places_are_told-met (sig_at x consts reads) g x k m;
+      arguments_were_results = arguments_were_results-met (sig_at x consts reads) g x k m;
+      markers_stand = markers_stand-met (sig_at x consts reads) g x k m;
+      registers_are_told = registers_are_told-met x consts reads w m;
+    }
 
 abbrev EachTrue : Meaning → List (List Fm) → Type 0
 EachTrue M [] = Unit {0}
@@ -71,7 +68,7 @@ all-gathered (fs ∷ fss) M h = (all-both fs (gathered fss) M).1 (h.0, all-gathe
 pub all-true : (p : Prog) (begins : ℕ) (M : Meaning) → AreMet p begins M → AllTrue M (axioms p begins)
 all-true p begins M h =
     let e = exact p begins M in
-    all-gathered (before_orders ∷ stamps_order ∷ transactions_part ∷ transactions_are_whole ∷ commits_grow ∷ views_grow p begins ∷ own_calls_in_line ∷ results_stay p ∷ places_are_told p ∷ arguments_were_results p ∷ markers_stand p ∷ []) M (
+    all-gathered (before_orders ∷ stamps_order ∷ transactions_part ∷ transactions_are_whole ∷ commits_grow ∷ views_grow p begins ∷ own_calls_in_line ∷ results_stay p ∷ places_are_told p ∷ arguments_were_results p ∷ markers_stand p ∷ registers_are_told p begins ∷ []) M (
       e.before_orders.1 h.before_orders,
       (
         e.stamps_order.1 h.stamps_order,
@@ -85,7 +82,7 @@ all-true p begins M h =
                 e.views_grow.1 h.views_grow,
                 (
                   e.own_calls_in_line.1 h.own_calls_in_line,
-                  (e.results_stay.1 h.results_stay, (e.places_are_told.1 h.places_are_told, (e.arguments_were_results.1 h.arguments_were_results, (e.markers_stand.1 h.markers_stand, tt)))),
+                  (e.results_stay.1 h.results_stay, (e.places_are_told.1 h.places_are_told, (e.arguments_were_results.1 h.arguments_were_results, (e.markers_stand.1 h.markers_stand, (e.registers_are_told.1 h.registers_are_told, tt))))),
                 ),
               ),
             ),
@@ -93,36 +90,3 @@ all-true p begins M h =
         ),
       ),
     )
-
--- # Parts
-
-pub parts-fit : (p : Prog) (M : Meaning) (at : At) (parts : Parts) (universe : ℕ) → parts.universe ≡ universe → FitsMost p M at parts → FitsAtoms p M universe
-    → FitsParts p M at parts
-parts-fit p M at parts universe e most atoms = record {
-  calls = most.calls;
-  committed = most.committed;
-  invs = most.invs;
-  inv_points = most.inv_points;
-  existing = most.existing;
-  atoms = λ n k l lk. atoms.atoms n k l (subst (λ u. k < u) e lk);
-  atom_points = λ n y l i. let r = atoms.atom_points n y l i in (r.0, r.1, subst (λ u. r.0 < u) (sym e) r.2);
-  same = most.same;
-  origins = most.origins;
-  infos = most.infos;
-  results = most.results;
-  sums = most.sums;
-  differences = most.differences;
-}
-
-pub before-fits : (x : Step) (consts : List ℕ) (reads : ℕ) → is_well_formed x.program ≡ true → IsStep x → (view : ℕ)
-    → FitsParts x.program (meaning_of (sig_at x consts reads) x) (before_at view) (plain x.old)
-before-fits x consts reads w m view =
-    let k = program-is x.program w in
-    parts-fit x.program (meaning_of (sig_at x consts reads) x) (before_at view) (plain x.old) x.new.universe (kept x w m).grows.universe
-    (fits-before (sig_at x consts reads) (sig-is x.program x.views consts reads) x k m view) (atoms-fit x consts reads)
-
-pub after-fits : (x : Step) (consts : List ℕ) (reads : ℕ) → is_well_formed x.program ≡ true → IsStep x → (view : ℕ)
-    → FitsParts x.program (meaning_of (sig_at x consts reads) x) (after_at view) (plain x.new)
-after-fits x consts reads w m view =
-    parts-fit x.program (meaning_of (sig_at x consts reads) x) (after_at view) (plain x.new) x.new.universe refl
-    (fits-after (sig_at x consts reads) (sig-is x.program x.views consts reads) x (program-is x.program w) m view) (atoms-fit x consts reads)

@@ -1,6 +1,5 @@
 -- The function of each query stands at its number, at each set of calls that formulas take for a snapshot.
 use Rattle.std.proofs.Common.{◌≡◌, ℕ, zero, suc, ◌+◌, ◌*◌, ◌-◌, ◌<◌, ◌≤◌, nat_lt, Bool, true, false, if◌then◌else◌, List, [], ◌∷◌, ◌++◌, length, filter, take, slice_get, Some, refl, sym, ap, ap₂, ◌∙◌, arith}
-use Rattle.std.proofs.Math.Nat.{suc-mul}
 use Rattle.std.proofs.lemmas.List.Sums.{length-filter}
 use Rattle.std.proofs.lemmas.Bool.{le-ltb}
 use Rattle.std.proofs.lemmas.Option.{none-some, same_Some}
@@ -11,6 +10,7 @@ use Rattle.crdt_lib.specs.Calls.{Call}
 use Rattle.event_machine.specs.WellFormed.{At}
 use Rattle.rp_logic.specs.Structures.{Fun}
 use Rattle.rp_symbols.specs.Numbers.{ids, gets, view_place, val_fn, old_rel, snapshot_rel, part_rel, seen_rel, read_rel}
+use Rattle.rp_symbols.proofs.StandToo.{no-block, one-block}
 use Rattle.hist_struct.specs.QueryValues.{val_table, val_tables}
 use Rattle.hist_struct.specs.Steps.{Step, begins, is_done, is_part, is_seen, is_read}
 use Rattle.hist_struct.specs.Structure.{vals_at, view_vals, vals_of, fns_of}
@@ -27,15 +27,6 @@ many-gets queries = length-filter (λ (query : QueryDecl). is_get query.kind) qu
 
 past-fixed : (a b m : ℕ) → a + b ≡ m → 7 + a + b ≡ suc (suc (suc (suc (suc (suc (suc m))))))
 past-fixed a b m e = omega (arith, e)
-
-no-block : (g i : ℕ) → 0 * g + i ≡ i
-no-block g i = omega arith
-
-one-block : (n g i : ℕ) → suc n * g + i ≡ g + (n * g + i)
-one-block n g i = go (n * g) (suc n * g) (suc-mul n g)
-  where
-    go : (a b : ℕ) → b ≡ a + g → b + i ≡ g + (a + i)
-    go a b e = omega (arith, e)
 
 doubled : (j : ℕ) → suc j + suc j ≡ suc (suc (j + j))
 doubled j = omega arith

@@ -4,7 +4,7 @@ use Rattle.rp_logic.specs.Formulas.{Fm}
 use Rattle.rp_lang.specs.Programs.{Prog}
 use Rattle.rp_logic.specs.Truth.{Meaning, AllTrue}
 use Rattle.hist_struct.specs.Conditions.{BeforeOrders, StampsOrder, TransactionsPart, TransactionsAreWhole, CommitsGrow, ViewsGrow, OwnCallsInLine, ResultsStay, PlacesAreTold, ArgumentsWereResults, MarkersStand}
-use Rattle.hist_struct.specs.Registers.{RegistersTell, registers_tell}
+use Rattle.hist_struct.specs.Registers.{RegistersTell, RegistersAreTold, registers_tell, registers_are_told}
 use Rattle.hist_struct.specs.Axioms.{before_orders, stamps_order, transactions_part, transactions_are_whole, commits_grow, views_grow, own_calls_in_line, results_stay, places_are_told, arguments_were_results, markers_stand}
 
 -- the formulas are true exactly where the conditions hold
@@ -20,6 +20,7 @@ pub record AreExact (p : Prog) (begins : ℕ) (M : Meaning) : Type 0 where
   pub places_are_told : AllTrue M (places_are_told p) ↔ PlacesAreTold p M
   pub arguments_were_results : AllTrue M (arguments_were_results p) ↔ ArgumentsWereResults p M
   pub markers_stand : AllTrue M (markers_stand p) ↔ MarkersStand p M
+  pub registers_are_told : AllTrue M (registers_are_told p begins) ↔ RegistersAreTold p begins M
   -- at whatever relation stands for a view
   pub registers_tell : (view : ℕ) → AllTrue M (registers_tell p view) ↔ RegistersTell p M view
 
@@ -36,11 +37,12 @@ pub record AreMet (p : Prog) (begins : ℕ) (M : Meaning) : Type 0 where
   pub places_are_told : PlacesAreTold p M
   pub arguments_were_results : ArgumentsWereResults p M
   pub markers_stand : MarkersStand p M
+  pub registers_are_told : RegistersAreTold p begins M
 
 abbrev pub gathered : List (List Fm) → List Fm
 gathered [] = []
 gathered (fs ∷ fss) = fs ++ gathered fss
 
--- the axioms of a program's signatures, but for that of registers
+-- the axioms of a program's signatures
 abbrev pub axioms : Prog → ℕ → List Fm
-axioms p begins = gathered (before_orders ∷ stamps_order ∷ transactions_part ∷ transactions_are_whole ∷ commits_grow ∷ views_grow p begins ∷ own_calls_in_line ∷ results_stay p ∷ places_are_told p ∷ arguments_were_results p ∷ markers_stand p ∷ [])
+axioms p begins = gathered (before_orders ∷ stamps_order ∷ transactions_part ∷ transactions_are_whole ∷ commits_grow ∷ views_grow p begins ∷ own_calls_in_line ∷ results_stay p ∷ places_are_told p ∷ arguments_were_results p ∷ markers_stand p ∷ registers_are_told p begins ∷ [])

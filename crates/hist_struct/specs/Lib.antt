@@ -4,6 +4,7 @@ pub mod Holding
 pub mod means
 pub mod QueryValues
 pub mod Registers
+pub mod rows
 pub mod Snapshots
 pub mod Steps
 pub mod Structure

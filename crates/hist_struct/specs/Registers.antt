@@ -1,6 +1,6 @@
 -- The axiom of registers: what a query of a register gives at a view is what the assign of the greatest stamp among those that
 -- count there assigns, or `none`. As a condition on a structure and as formulas.
-use Rattle.std.specs.Prelude.{◌≡◌, ℕ, suc, ◌-◌, Bool, true, false, ◌&&◌, List, [], ◌∷◌, ◌++◌, length, map, Option, Some, None, slice_get, if◌then◌else◌}
+use Rattle.std.specs.Prelude.{◌≡◌, ◌<◌, ℕ, zero, suc, ◌-◌, Bool, true, false, ◌&&◌, List, [], ◌∷◌, ◌++◌, length, map, Option, Some, None, slice_get, if◌then◌else◌}
 use Rattle.rp_value.specs.declared.tables.Ty.{Ty}
 use Rattle.rp_lang.specs.Crdts.{Cr, Reg}
 use Rattle.rp_lang.specs.Paths.{field_in, root_crdt}
@@ -23,6 +23,7 @@ use Rattle.rp_logic.specs.Formulas.{Fm, And, All, no_fm, also_fm}
 use Rattle.rp_logic.specs.Filling.{raised}
 use Rattle.rp_logic.specs.Truth.{Meaning}
 use Rattle.rp_symbols.specs.Numbers.{stamp_rel, before_rel, op_fn, op_con, val_fn}
+use Rattle.rp_symbols.specs.Numbers.{old_rel, snapshot_rel, part_rel, seen_rel, read_rel}
 use Rattle.rp_symbols.specs.Signatures.{sort_of}
 use Rattle.crdt_enc.specs.Builders.{one_fm, tms_of}
 use Rattle.crdt_enc.specs.Elements.{elems}
@@ -199,3 +200,22 @@ queries_tell p view n (query ∷ queries) =
 -- of all queries of registers, at this view
 abbrev pub registers_tell : Prog → ℕ → List Fm
 registers_tell p view = queries_tell p view 0 p.queries
+
+-- at what is seen and read from each begin below n on
+abbrev pub registers_of_views : Prog → ℕ → List Fm
+registers_of_views p zero = []
+registers_of_views p (suc n) = registers_tell p (seen_rel p n) ++ (registers_tell p (read_rel p n) ++ registers_of_views p n)
+
+-- at each view
+abbrev pub registers_are_told : Prog → ℕ → List Fm
+registers_are_told p begins =
+    registers_tell p old_rel ++ (registers_tell p snapshot_rel ++ (registers_tell p part_rel ++ registers_of_views p begins))
+
+-- Registers tell at the calls committed before the step, at the snapshot, at its part, and at what is seen and read from each
+-- begin on.
+pub record RegistersAreTold (p : Prog) (begins : ℕ) (M : Meaning) : Type 0 where
+  pub old : RegistersTell p M old_rel
+  pub snapshot : RegistersTell p M snapshot_rel
+  pub part : RegistersTell p M part_rel
+  pub seen : (k : ℕ) → k < begins → RegistersTell p M (seen_rel p k)
+  pub read : (k : ℕ) → k < begins → RegistersTell p M (read_rel p k)

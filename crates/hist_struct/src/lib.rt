@@ -3,6 +3,7 @@
 #![tactic(auto)]
 
 mod laws;
+pub mod rows;
 
 pub use laws::{
     axioms_are_exact, axioms_hold, elements_are_values, labels_are_steps, structures_fit,

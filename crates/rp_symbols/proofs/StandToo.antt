@@ -1,5 +1,5 @@
 -- Where the relations and functions of a program's signature stand.
-use Rattle.std.proofs.Common.{◌≡◌, ℕ, zero, suc, ◌+◌, ◌*◌, ◌-◌, ◌<◌, Bool, true, false, if◌then◌else◌, List, [], ◌∷◌, ◌++◌, length, map, filter, take, replicate, Some, slice_get, refl, sym, ap, ap₂, ◌∙◌, arith}
+use Rattle.std.proofs.Common.{◌≡◌, ℕ, zero, suc, ◌+◌, ◌*◌, ◌<◌, Bool, true, false, if◌then◌else◌, List, [], ◌∷◌, ◌++◌, length, map, filter, take, replicate, Some, slice_get, refl, sym, ap, ◌∙◌, arith}
 use Rattle.std.proofs.Math.Nat.{suc-mul}
 use Rattle.std.proofs.lemmas.List.{length-map}
 use Rattle.std.proofs.lemmas.List.Sums.{length-filter}
@@ -108,13 +108,13 @@ filtered (first ∷ queries) (suc j) query a g = go (is_get first.kind) (filtere
     go true r = r
     go false r = r
 
-one-block : (n g i : ℕ) → suc n * g + i ≡ g + (n * g + i)
+pub one-block : (n g i : ℕ) → suc n * g + i ≡ g + (n * g + i)
 one-block n g i = go (n * g) (suc n * g) (suc-mul n g)
   where
     go : (a b : ℕ) → b ≡ a + g → b + i ≡ g + (a + i)
     go a b e = omega (arith, e)
 
-no-block : (g i : ℕ) → 0 * g + i ≡ i
+pub no-block : (g i : ℕ) → 0 * g + i ≡ i
 no-block g i = omega arith
 
 in-blocks : (p : Prog) (n place i : ℕ) (decl : FnDecl) → place < n → slice_get (val_decls p) i ≡ Some decl → slice_get (val_decls_at p n) (place * gets p.queries + i) ≡ Some decl

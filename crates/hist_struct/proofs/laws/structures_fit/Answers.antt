@@ -2,7 +2,7 @@ use Rattle.hist_struct.proofs.AtomLaws.{snapshots}
 use Rattle.hist_struct.proofs.StepPrograms.{program-is}
 use Rattle.hist_struct.proofs.StageLaws.{stages}
 use Rattle.hist_struct.proofs.ViewLaws.{views-fit}
-use Rattle.hist_struct.proofs.Together.{before-fits, after-fits}
+use Rattle.hist_struct.proofs.PartLaws.{before-fits, after-fits}
 use Rattle.hist_struct.proofs.laws.structures_fit.Goals as goal
 
 pub returns : goal.returns
