@@ -147,7 +147,7 @@ fn int_in(value: &Value) -> i128
     }
 }
 
-#[tactic(auto, using(crate::proofs::SameLemmas::arg_seen))]
+#[tactic(auto, using(crdt_defs::proofs::SameLemmas::arg_seen))]
 fn int_at(args: &[Value], i: usize) -> i128
     ensures { result ≡ spec.int_of (slice_get (map value_view args.now) i) }
 {

@@ -63,7 +63,7 @@ fn same(a: &Value, b: &Value) -> bool
 }
 
 /// Whether there is an argument i, and it is x.
-#[tactic(auto, using(crate::proofs::SameLemmas::arg_seen))]
+#[tactic(auto, using(crdt_defs::proofs::SameLemmas::arg_seen))]
 fn arg_is(args: &[Value], i: usize, x: &Value) -> bool
     ensures { result ≡ value_is (value_view x.now) (slice_get (map value_view args.now) i) }
 {
