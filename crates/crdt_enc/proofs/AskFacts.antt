@@ -12,16 +12,16 @@ use Rattle.rp_lang.specs.declared.query.QueryKind.TheVariants.{Contains, HasKey,
 use Rattle.rp_lang.specs.Paths.{is_tx, is_op, is_tx_kind, is_no_path, field_in, root_crdt}
 use Rattle.rp_lang.specs.Typing.{is_get}
 use Rattle.rp_lang.specs.Programs.{Prog}
-use Rattle.crdt_lib.specs.Calls.{Call}
-use Rattle.crdt_lib.specs.declared.asked.Answer.{Answer}
-use Rattle.crdt_lib.specs.declared.asked.Answer.TheVariants.{Truth}
-use Rattle.crdt_lib.specs.declared.asked.Question.TheVariants as asks
-use Rattle.crdt_lib.specs.declared.asked.Question.{Question}
-use Rattle.crdt_lib.specs.declared.asked.Question.TheVariants.{AddWins, RemoveWins, ManyValues, Latest, Total, NoQuestion}
-use Rattle.crdt_lib.specs.Queries.{question, answer_at, ask, held_in, winner_in, answer_by}
-use Rattle.crdt_lib.specs.Meaning.{among, in_field, at_key}
-use Rattle.crdt_lib.specs.Doing.{on_root}
-use Rattle.crdt_lib.specs.Truths.{Reading}
+use Rattle.crdt_defs.specs.Calls.{Call}
+use Rattle.crdt_defs.specs.declared.asked.Answer.{Answer}
+use Rattle.crdt_defs.specs.declared.asked.Answer.TheVariants.{Truth}
+use Rattle.crdt_defs.specs.declared.asked.Question.TheVariants as asks
+use Rattle.crdt_defs.specs.declared.asked.Question.{Question}
+use Rattle.crdt_defs.specs.declared.asked.Question.TheVariants.{AddWins, RemoveWins, ManyValues, Latest, Total, NoQuestion}
+use Rattle.crdt_defs.specs.Queries.{question, answer_at, ask, held_in, winner_in, answer_by}
+use Rattle.crdt_defs.specs.Meaning.{among, in_field, at_key}
+use Rattle.crdt_defs.specs.Doing.{on_root}
+use Rattle.crdt_defs.specs.Truths.{Reading}
 use Rattle.rp_logic.specs.Truth.{Meaning}
 use Rattle.std.proofs.lemmas.Bool.{and_parts}
 use Rattle.rp_logic.proofs.SortLaws.{no}

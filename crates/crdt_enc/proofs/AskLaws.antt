@@ -8,11 +8,11 @@ use Rattle.rp_lang.specs.declared.op.PathStep.TheVariants.{Field, Key}
 use Rattle.rp_lang.specs.declared.query.QueryDecl.{QueryDecl}
 use Rattle.rp_lang.specs.declared.query.QueryKind.{QueryKind}
 use Rattle.rp_lang.specs.Programs.{Prog}
-use Rattle.crdt_lib.specs.Calls.{Call}
-use Rattle.crdt_lib.specs.declared.asked.Question.TheVariants as asks
-use Rattle.crdt_lib.specs.declared.asked.Question.{Question}
-use Rattle.crdt_lib.specs.declared.asked.Question.TheVariants.{AddWins, RemoveWins, ManyValues, Latest, Total, NoQuestion}
-use Rattle.crdt_lib.specs.Queries.{question, answer_at, ask, held_in, winner_in, answer_by, answer_in, is_true}
+use Rattle.crdt_defs.specs.Calls.{Call}
+use Rattle.crdt_defs.specs.declared.asked.Question.TheVariants as asks
+use Rattle.crdt_defs.specs.declared.asked.Question.{Question}
+use Rattle.crdt_defs.specs.declared.asked.Question.TheVariants.{AddWins, RemoveWins, ManyValues, Latest, Total, NoQuestion}
+use Rattle.crdt_defs.specs.Queries.{question, answer_at, ask, held_in, winner_in, answer_by, answer_in, is_true}
 use Rattle.rp_lang.specs.Paths.{field_in, root_crdt}
 use Rattle.rp_logic.specs.Terms.{Tm}
 use Rattle.rp_logic.specs.Elements.{Elem}

@@ -3,8 +3,8 @@ use Rattle.std.proofs.Common.{◌≡◌, ℕ, zero, suc, ◌+◌, ◌-◌, ◌�
 use Rattle.rp_value.specs.Values.{Val}
 use Rattle.rp_lang.specs.declared.op.OpDecl.{OpDecl}
 use Rattle.rp_lang.specs.Programs.{Prog}
-use Rattle.crdt_lib.specs.Calls.{Call}
-use Rattle.crdt_lib.specs.Fitting.{fits, all_fit}
+use Rattle.crdt_defs.specs.Calls.{Call}
+use Rattle.crdt_defs.specs.Fitting.{fits, all_fit}
 use Rattle.rp_logic.specs.Terms.{Tm}
 use Rattle.rp_logic.specs.Elements.{Elem, Point, Made, no_elem, also_elem, same_elem}
 use Rattle.rp_logic.specs.Structures.{apply, nth_elem}

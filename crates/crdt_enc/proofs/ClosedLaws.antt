@@ -5,9 +5,9 @@ use Rattle.rp_value.specs.Values.{Val}
 use Rattle.rp_lang.specs.declared.query.QueryDecl.{QueryDecl}
 use Rattle.rp_lang.specs.Formulas.{Fo}
 use Rattle.rp_lang.specs.Typing.{in_invariant, is_typed, is_get}
-use Rattle.crdt_lib.specs.Fitting.{all_fit}
-use Rattle.crdt_lib.specs.Queries.{answer_in, is_true}
-use Rattle.crdt_lib.specs.Truths.{Reading, truth}
+use Rattle.crdt_defs.specs.Fitting.{all_fit}
+use Rattle.crdt_defs.specs.Queries.{answer_in, is_true}
+use Rattle.crdt_defs.specs.Truths.{Reading, truth}
 use Rattle.rp_logic.specs.Terms.{Tm}
 use Rattle.rp_logic.specs.Elements.{Elem}
 use Rattle.rp_logic.specs.Truth.{Meaning, Holds, value}

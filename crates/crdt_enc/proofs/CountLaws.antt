@@ -4,10 +4,10 @@ use Rattle.std.proofs.lemmas.Option.{same_Some}
 use Rattle.rp_value.specs.Values.{Val}
 use Rattle.rp_lang.specs.declared.op.OpDecl.{OpDecl}
 use Rattle.rp_lang.specs.Programs.{Prog}
-use Rattle.crdt_lib.specs.Calls.{Call}
-use Rattle.crdt_lib.specs.Histories.{call_is}
-use Rattle.crdt_lib.specs.Meaning.{among}
-use Rattle.crdt_lib.specs.Fitting.{all_fit}
+use Rattle.crdt_defs.specs.Calls.{Call}
+use Rattle.crdt_defs.specs.Histories.{call_is}
+use Rattle.crdt_defs.specs.Meaning.{among}
+use Rattle.crdt_defs.specs.Fitting.{all_fit}
 use Rattle.rp_logic.specs.Terms.{Tm, Var}
 use Rattle.rp_logic.specs.Formulas.{Fms}
 use Rattle.rp_logic.specs.Elements.{Elem, Point}

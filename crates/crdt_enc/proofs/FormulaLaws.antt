@@ -19,17 +19,17 @@ use Rattle.rp_value.specs.declared.tables.ConDecl.{ConDecl}
 use Rattle.rp_lang.specs.Typing as typing
 use Rattle.rp_lang.specs.Typing.{Frame, type_of, have_types, is_get, is_asked, query_args, is_question, is_truth, is_typed, are_typed, are_typed_arms, are_comparable, are_both, is_range, is_among}
 use Rattle.rp_lang.specs.Programs.{Prog}
-use Rattle.crdt_lib.specs.Histories.{before, same_tx}
-use Rattle.crdt_lib.specs.Parts as parts
-use Rattle.crdt_lib.specs.Parts.{Parts, bound, is_in_range, member}
-use Rattle.crdt_lib.specs.Fitting as fitting
-use Rattle.crdt_lib.specs.Fitting.{fits, fields_fit, all_fit}
-use Rattle.crdt_lib.specs.Queries as queries
-use Rattle.crdt_lib.specs.Queries.{answer_in}
+use Rattle.crdt_defs.specs.Histories.{before, same_tx}
+use Rattle.crdt_defs.specs.Parts as parts
+use Rattle.crdt_defs.specs.Parts.{Parts, bound, is_in_range, member}
+use Rattle.crdt_defs.specs.Fitting as fitting
+use Rattle.crdt_defs.specs.Fitting.{fits, fields_fit, all_fit}
+use Rattle.crdt_defs.specs.Queries as queries
+use Rattle.crdt_defs.specs.Queries.{answer_in}
 use Rattle.rp_lang.specs.Paths.{root_crdt}
-use Rattle.crdt_lib.specs.declared.asked.Answer.TheVariants.{Truth}
-use Rattle.crdt_lib.specs.Truths as truths
-use Rattle.crdt_lib.specs.Truths.{Reading, number, asked, answer_val, is_visible, truth, all_true, any_true, arm_true, bind, bind_fields, is_built, Plain, meant}
+use Rattle.crdt_defs.specs.declared.asked.Answer.TheVariants.{Truth}
+use Rattle.crdt_defs.specs.Truths as truths
+use Rattle.crdt_defs.specs.Truths.{Reading, number, asked, answer_val, is_visible, truth, all_true, any_true, arm_true, bind, bind_fields, is_built, Plain, meant}
 use Rattle.rp_logic.specs.Terms as tm
 use Rattle.rp_logic.specs.Terms.{Tm, Tms, no_tm, also_tm}
 use Rattle.rp_logic.specs.Formulas as fm

@@ -14,11 +14,11 @@ use Rattle.rp_lang.specs.Exprs.{Ex, Exs, no_ex, also_ex}
 use Rattle.rp_lang.specs.Types.{agree, datatype_in}
 use Rattle.rp_lang.specs.Typing.{Frame, type_of, have_types, op_args, proc_params, proc_result, is_proc, is_proc_without_result}
 use Rattle.rp_lang.specs.Programs.{Prog, Proc}
-use Rattle.crdt_lib.specs.Parts.{Parts, Info, Result, Unreturned, Returned, ReturnedWith}
-use Rattle.crdt_lib.specs.SameValues.{same_val, same_vals}
-use Rattle.crdt_lib.specs.Fitting.{fits, fields_fit, all_fit}
-use Rattle.crdt_lib.specs.Truths as truths
-use Rattle.crdt_lib.specs.Truths.{Reading, call_at, info_at, operation_of, info_of, result_of, ended, Meant, Plain, Operation, Invoked, Running, Ended, EndedWith, meant, same_meant}
+use Rattle.crdt_defs.specs.Parts.{Parts, Info, Result, Unreturned, Returned, ReturnedWith}
+use Rattle.crdt_defs.specs.SameValues.{same_val, same_vals}
+use Rattle.crdt_defs.specs.Fitting.{fits, fields_fit, all_fit}
+use Rattle.crdt_defs.specs.Truths as truths
+use Rattle.crdt_defs.specs.Truths.{Reading, call_at, info_at, operation_of, info_of, result_of, ended, Meant, Plain, Operation, Invoked, Running, Ended, EndedWith, meant, same_meant}
 use Rattle.rp_logic.specs.Elements.{Elem, Point, Made, no_elem, also_elem, same_elem}
 use Rattle.rp_logic.specs.Truth.{Meaning, value}
 use Rattle.rp_logic.proofs.ElementLaws.{same-is, same-self}

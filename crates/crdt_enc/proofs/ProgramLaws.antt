@@ -13,16 +13,16 @@ use Rattle.rp_lang.specs.declared.op.OpKind.TheVariants.{Tx, Add, Remove, Assign
 use Rattle.rp_lang.specs.declared.op.PathStep.{PathStep}
 use Rattle.rp_lang.specs.declared.op.PathStep.TheVariants.{Field, Key}
 use Rattle.rp_lang.specs.declared.query.QueryDecl.{QueryDecl}
-use Rattle.crdt_lib.specs.declared.asked.Winner.TheVariants.{Update, Delete}
+use Rattle.crdt_defs.specs.declared.asked.Winner.TheVariants.{Update, Delete}
 use Rattle.rp_lang.specs.declared.query.QueryKind.{QueryKind}
 use Rattle.rp_lang.specs.declared.query.QueryKind.TheVariants.{Contains, HasKey, GetReg, GetSum}
 use Rattle.rp_lang.specs.Types.{same_ty, is_one}
 use Rattle.rp_lang.specs.Paths as paths
 use Rattle.rp_lang.specs.Paths.{held_at, stepped, reached, own_args, field_in, root_crdt, is_one_of, keys_of, op_fits, op_stands, query_fits, query_stands}
 use Rattle.rp_lang.specs.Programs.{Prog}
-use Rattle.crdt_lib.specs.Doing.{is_key, keys_in, is_field, is_some_key, same_kind}
-use Rattle.crdt_lib.specs.Queries.{question, held_in, winner_in}
-use Rattle.crdt_lib.specs.Fitting.{fits, all_fit}
+use Rattle.crdt_defs.specs.Doing.{is_key, keys_in, is_field, is_some_key, same_kind}
+use Rattle.crdt_defs.specs.Queries.{question, held_in, winner_in}
+use Rattle.crdt_defs.specs.Fitting.{fits, all_fit}
 use Rattle.std.proofs.lemmas.Bool.{and_parts}
 use Rattle.rp_logic.proofs.SortLaws.{no}
 use Rattle.crdt_enc.specs.Ways.{Way, Root, AtField, AtKey, depth, goes}

@@ -6,12 +6,12 @@ use Rattle.rp_lang.specs.declared.op.OpDecl.{OpDecl}
 use Rattle.rp_lang.specs.declared.op.OpKind.{OpKind}
 use Rattle.rp_lang.specs.declared.op.OpKind.TheVariants.{Add, Remove, Assign}
 use Rattle.rp_lang.specs.Programs.{Prog}
-use Rattle.crdt_lib.specs.Calls.{Call}
-use Rattle.crdt_lib.specs.Counting.{any_below}
-use Rattle.crdt_lib.specs.Histories.{call_is, before}
-use Rattle.crdt_lib.specs.Histories as hist
-use Rattle.crdt_lib.specs.Doing.{does, is_of, keys_in}
-use Rattle.crdt_lib.specs.Meaning.{among, is_before_one, one_stays, contains_add_wins, contains_remove_wins, contains_value}
+use Rattle.crdt_defs.specs.Calls.{Call}
+use Rattle.crdt_defs.specs.Counting.{any_below}
+use Rattle.crdt_defs.specs.Histories.{call_is, before}
+use Rattle.crdt_defs.specs.Histories as hist
+use Rattle.crdt_defs.specs.Doing.{does, is_of, keys_in}
+use Rattle.crdt_defs.specs.Meaning.{among, is_before_one, one_stays, contains_add_wins, contains_remove_wins, contains_value}
 use Rattle.rp_logic.specs.Terms.{Tm, Var}
 use Rattle.rp_logic.specs.Formulas.{Fms, And, no_fm, also_fm}
 use Rattle.rp_logic.specs.Elements.{Elem, Point}

@@ -4,12 +4,12 @@ use Rattle.rp_value.specs.declared.tables.Ty.{Ty}
 use Rattle.rp_value.specs.declared.tables.Ty.TheVariants as ty
 use Rattle.rp_lang.specs.Programs.{Prog}
 use Rattle.rp_lang.specs.Typing.{Frame, is_range}
-use Rattle.crdt_lib.specs.Calls.{Call}
-use Rattle.crdt_lib.specs.Counting.{all_below}
-use Rattle.crdt_lib.specs.Histories.{meets, call_is, before}
-use Rattle.crdt_lib.specs.Histories as hist
-use Rattle.crdt_lib.specs.Parts as parts
-use Rattle.crdt_lib.specs.Parts.{Parts, Info, bound, is_in_range, member, each_member, some_member, is_committed, is_done_by, is_before_all_of}
+use Rattle.crdt_defs.specs.Calls.{Call}
+use Rattle.crdt_defs.specs.Counting.{all_below}
+use Rattle.crdt_defs.specs.Histories.{meets, call_is, before}
+use Rattle.crdt_defs.specs.Histories as hist
+use Rattle.crdt_defs.specs.Parts as parts
+use Rattle.crdt_defs.specs.Parts.{Parts, Info, bound, is_in_range, member, each_member, some_member, is_committed, is_done_by, is_before_all_of}
 use Rattle.rp_logic.specs.Terms.{Tm, Var}
 use Rattle.rp_logic.specs.Formulas.{Fm, Fms, no_fm, also_fm}
 use Rattle.rp_logic.specs.Elements.{Elem, Point, same_elem}

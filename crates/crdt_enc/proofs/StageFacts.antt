@@ -25,10 +25,10 @@ use Rattle.rp_lang.proofs.TypeFacts.{each, is_data, ordinary-data, same-type, is
 use Rattle.rp_lang.proofs.ProgramFacts.{Facts, facts, procedure-of, fields-data, nothing, only, op-is, op-data}
 use Rattle.rp_logic.proofs.SortLaws.{no}
 use Rattle.rp_logic.specs.Truth.{Meaning}
-use Rattle.crdt_lib.specs.Calls.{Call}
-use Rattle.crdt_lib.specs.Parts.{Info}
-use Rattle.crdt_lib.specs.Fitting.{fits, all_fit}
-use Rattle.crdt_lib.specs.Truths.{Reading, asked}
+use Rattle.crdt_defs.specs.Calls.{Call}
+use Rattle.crdt_defs.specs.Parts.{Info}
+use Rattle.crdt_defs.specs.Fitting.{fits, all_fit}
+use Rattle.crdt_defs.specs.Truths.{Reading, asked}
 use Rattle.crdt_enc.specs.Places.{At}
 use Rattle.crdt_enc.specs.FitsParts.{FitsParts, FitsView, FitsValues}
 use Rattle.crdt_enc.specs.Stages.{CallFits, InfoFits, Stage}

@@ -4,7 +4,7 @@ use Rattle.std.proofs.lemmas.Option.{none-some, same_Some}
 use Rattle.rp_value.specs.declared.tables.Ty.{Ty}
 use Rattle.rp_value.specs.Values.{Val}
 use Rattle.rp_lang.specs.Programs.{Prog}
-use Rattle.crdt_lib.specs.Fitting.{fits, all_fit}
+use Rattle.crdt_defs.specs.Fitting.{fits, all_fit}
 use Rattle.crdt_enc.specs.Elements.{elem_of}
 use Rattle.std.proofs.lemmas.Bool.{and_parts, and_from}
 use Rattle.rp_logic.proofs.SortLaws.{no}

@@ -6,14 +6,14 @@ use Rattle.rp_lang.specs.declared.op.OpDecl.{OpDecl}
 use Rattle.rp_lang.specs.declared.op.OpKind.{OpKind}
 use Rattle.rp_lang.specs.declared.op.OpKind.TheVariants as op
 use Rattle.rp_lang.specs.Programs.{Prog}
-use Rattle.crdt_lib.specs.Calls.{Call}
-use Rattle.crdt_lib.specs.declared.asked.Winner.{Winner}
-use Rattle.crdt_lib.specs.declared.asked.Winner.TheVariants.{Update, Delete}
-use Rattle.crdt_lib.specs.SameValues.{value_is}
-use Rattle.crdt_lib.specs.Counting.{any_below}
-use Rattle.crdt_lib.specs.Histories.{call_is, before}
-use Rattle.crdt_lib.specs.Doing.{op_is, on_root, goes_to_field, goes_to_key, deletes, does, keys_in, same_kind}
-use Rattle.crdt_lib.specs.Meaning.{among, loses}
+use Rattle.crdt_defs.specs.Calls.{Call}
+use Rattle.crdt_defs.specs.declared.asked.Winner.{Winner}
+use Rattle.crdt_defs.specs.declared.asked.Winner.TheVariants.{Update, Delete}
+use Rattle.crdt_defs.specs.SameValues.{value_is}
+use Rattle.crdt_defs.specs.Counting.{any_below}
+use Rattle.crdt_defs.specs.Histories.{call_is, before}
+use Rattle.crdt_defs.specs.Doing.{op_is, on_root, goes_to_field, goes_to_key, deletes, does, keys_in, same_kind}
+use Rattle.crdt_defs.specs.Meaning.{among, loses}
 use Rattle.rp_logic.specs.Terms.{Tm, Var}
 use Rattle.rp_logic.specs.Formulas.{Fm}
 use Rattle.rp_logic.specs.Elements.{Elem, Point}

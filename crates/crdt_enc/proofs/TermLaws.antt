@@ -15,11 +15,11 @@ use Rattle.rp_lang.specs.Types as types
 use Rattle.rp_lang.specs.Types.{same_ty, is_ty, agree, datatype_of, datatype_in, fields_in}
 use Rattle.rp_lang.specs.Typing.{Frame, slot_ty, type_of, have_types, is_get, query_args, value_asked}
 use Rattle.rp_lang.specs.Programs.{Prog}
-use Rattle.crdt_lib.specs.Calls.{Call}
-use Rattle.crdt_lib.specs.Parts.{Parts}
-use Rattle.crdt_lib.specs.Fitting.{fits, fields_fit, all_fit, cons_to, fields_of}
-use Rattle.crdt_lib.specs.Truths as truths
-use Rattle.crdt_lib.specs.Truths.{Reading, slot_value, or_false, number, asked, call_at, origin_of, Meant, Plain, list_of, meant}
+use Rattle.crdt_defs.specs.Calls.{Call}
+use Rattle.crdt_defs.specs.Parts.{Parts}
+use Rattle.crdt_defs.specs.Fitting.{fits, fields_fit, all_fit, cons_to, fields_of}
+use Rattle.crdt_defs.specs.Truths as truths
+use Rattle.crdt_defs.specs.Truths.{Reading, slot_value, or_false, number, asked, call_at, origin_of, Meant, Plain, list_of, meant}
 use Rattle.rp_logic.specs.Terms.{Tm}
 use Rattle.rp_logic.specs.Elements.{Elem, Whole, Made, also_elem}
 use Rattle.rp_logic.specs.Structures.{number_of}

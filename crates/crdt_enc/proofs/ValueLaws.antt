@@ -6,8 +6,8 @@ use Rattle.rp_value.specs.declared.tables.Ty.{Ty}
 use Rattle.rp_value.specs.declared.tables.Ty.TheVariants as ty
 use Rattle.rp_value.specs.Values.{Val, Int, Str, Atom, Con, Call, Inv, Vals, no_val, also_val}
 use Rattle.rp_lang.specs.Programs.{Prog}
-use Rattle.crdt_lib.specs.SameValues.{same_val, same_vals}
-use Rattle.crdt_lib.specs.Fitting.{fits, fields_fit, cons_to, fields_of}
+use Rattle.crdt_defs.specs.SameValues.{same_val, same_vals}
+use Rattle.crdt_defs.specs.Fitting.{fits, fields_fit, cons_to, fields_of}
 use Rattle.crdt_enc.specs.Elements.{elem_of, elems_in}
 use Rattle.std.proofs.lemmas.Bool.{and_parts, and_from}
 use Rattle.rp_logic.proofs.SortLaws.{no}

@@ -4,10 +4,10 @@ use Rattle.std.proofs.lemmas.Option.{none-some, same_Some}
 use Rattle.rp_value.specs.Values.{Val}
 use Rattle.rp_lang.specs.declared.op.OpDecl.{OpDecl}
 use Rattle.rp_lang.specs.Programs.{Prog}
-use Rattle.crdt_lib.specs.Calls.{Call}
-use Rattle.crdt_lib.specs.SameValues.{same_val, value_is}
-use Rattle.crdt_lib.specs.Histories.{meets, call_is}
-use Rattle.crdt_lib.specs.Doing.{meets_op, op_is, goes_to_field, goes_to_key, is_field, is_some_key, keys_in}
+use Rattle.crdt_defs.specs.Calls.{Call}
+use Rattle.crdt_defs.specs.SameValues.{same_val, value_is}
+use Rattle.crdt_defs.specs.Histories.{meets, call_is}
+use Rattle.crdt_defs.specs.Doing.{meets_op, op_is, goes_to_field, goes_to_key, is_field, is_some_key, keys_in}
 use Rattle.std.proofs.lemmas.Bool.{and_parts, and_from}
 use Rattle.rp_logic.proofs.SortLaws.{no}
 use Rattle.crdt_enc.specs.Ways.{Way, Root, AtField, AtKey, depth, goes}

@@ -4,14 +4,14 @@ use Rattle.rp_lang.specs.Programs.{Prog}
 use Rattle.rp_value.specs.Values.{Val}
 use Rattle.rp_lang.specs.declared.query.QueryDecl.{QueryDecl}
 use Rattle.rp_lang.specs.Typing.{is_get}
-use Rattle.crdt_lib.specs.Parts.{Parts, Info, is_committed}
-use Rattle.crdt_lib.specs.Fitting.{all_fit}
-use Rattle.crdt_lib.specs.Truths.{Reading, asked, ended, Meant, Plain, Operation, Invoked, Running, Ended, EndedWith}
+use Rattle.crdt_defs.specs.Parts.{Parts, Info, is_committed}
+use Rattle.crdt_defs.specs.Fitting.{all_fit}
+use Rattle.crdt_defs.specs.Truths.{Reading, asked, ended, Meant, Plain, Operation, Invoked, Running, Ended, EndedWith}
 use Rattle.rp_logic.specs.Elements.{Elem, Elems, Point, Whole, Made, no_elem, also_elem}
 use Rattle.rp_logic.specs.Structures.{is_elem, apply, is_related, first_number, second_number}
 use Rattle.rp_logic.specs.Truth.{Meaning}
-use Rattle.crdt_lib.specs.Calls.{Call}
-use Rattle.crdt_lib.specs.Histories.{before, same_tx}
+use Rattle.crdt_defs.specs.Calls.{Call}
+use Rattle.crdt_defs.specs.Histories.{before, same_tx}
 use Rattle.rp_symbols.specs.Numbers.{call_sort, inv_sort, atom_sort, before_rel, same_rel, op_fn, origin_fn, info_fn, add_fn, sub_fn, op_con, info_con, outcome_con, unreturned_con}
 use Rattle.crdt_enc.specs.Places.{At}
 use Rattle.rp_symbols.specs.Numbers.{val_fn}

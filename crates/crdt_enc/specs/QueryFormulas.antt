@@ -14,12 +14,12 @@ use Rattle.rp_lang.specs.declared.op.PathStep.TheVariants.{Field, Key}
 use Rattle.rp_lang.specs.declared.query.QueryDecl.{QueryDecl}
 use Rattle.rp_lang.specs.declared.query.QueryKind.{QueryKind}
 use Rattle.rp_lang.specs.Programs.{Prog}
-use Rattle.crdt_lib.specs.declared.asked.Winner.{Winner}
-use Rattle.crdt_lib.specs.declared.asked.Winner.TheVariants.{Update, Delete}
-use Rattle.crdt_lib.specs.declared.asked.Question.{Question}
-use Rattle.crdt_lib.specs.declared.asked.Question.TheVariants.{AddWins, RemoveWins, ManyValues, AtKey}
-use Rattle.crdt_lib.specs.Doing.{same_kind}
-use Rattle.crdt_lib.specs.Queries.{question, held_in, winner_in}
+use Rattle.crdt_defs.specs.declared.asked.Winner.{Winner}
+use Rattle.crdt_defs.specs.declared.asked.Winner.TheVariants.{Update, Delete}
+use Rattle.crdt_defs.specs.declared.asked.Question.{Question}
+use Rattle.crdt_defs.specs.declared.asked.Question.TheVariants.{AddWins, RemoveWins, ManyValues, AtKey}
+use Rattle.crdt_defs.specs.Doing.{same_kind}
+use Rattle.crdt_defs.specs.Queries.{question, held_in, winner_in}
 use Rattle.rp_lang.specs.Paths.{field_in, root_crdt}
 use Rattle.rp_symbols.specs.Numbers.{call_sort}
 use Rattle.crdt_enc.specs.Ways as ways

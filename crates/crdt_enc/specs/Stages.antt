@@ -7,10 +7,10 @@ use Rattle.rp_lang.specs.declared.query.QueryDecl.{QueryDecl}
 use Rattle.rp_lang.specs.Typing.{is_get}
 use Rattle.rp_lang.specs.Programs.{Prog, Proc}
 use Rattle.rp_lang.specs.WellFormed.{is_well_formed}
-use Rattle.crdt_lib.specs.Calls.{Call}
-use Rattle.crdt_lib.specs.Parts.{Info, Result, Unreturned, Returned, ReturnedWith}
-use Rattle.crdt_lib.specs.Fitting.{fits, all_fit}
-use Rattle.crdt_lib.specs.Truths.{Reading, asked}
+use Rattle.crdt_defs.specs.Calls.{Call}
+use Rattle.crdt_defs.specs.Parts.{Info, Result, Unreturned, Returned, ReturnedWith}
+use Rattle.crdt_defs.specs.Fitting.{fits, all_fit}
+use Rattle.crdt_defs.specs.Truths.{Reading, asked}
 use Rattle.rp_logic.specs.Truth.{Meaning}
 use Rattle.crdt_enc.specs.Places.{At}
 use Rattle.crdt_enc.specs.FitsParts.{FitsParts, FitsView, FitsValues}

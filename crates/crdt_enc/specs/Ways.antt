@@ -1,8 +1,8 @@
 -- The steps from a root to a part of it, the last step outermost: fields, and keys with what their map keeps.
 use Rattle.std.specs.Prelude.{ℕ, ◌+◌, Bool, ◌&&◌, nat_eq, List, [], ◌∷◌, ◌++◌, slice_get}
 use Rattle.rp_lang.specs.declared.op.OpDecl.{OpDecl}
-use Rattle.crdt_lib.specs.declared.asked.Winner.{Winner}
-use Rattle.crdt_lib.specs.Doing.{is_field, is_some_key}
+use Rattle.crdt_defs.specs.declared.asked.Winner.{Winner}
+use Rattle.crdt_defs.specs.Doing.{is_field, is_some_key}
 
 -- A key is a term where the way stands in a formula, and a value where it stands in the store.
 pub data Way (K : Type 0) : Type 0 where

@@ -7,10 +7,10 @@ use Rattle.rp_value.specs.Values.{Val, Int}
 use Rattle.rp_lang.specs.declared.op.OpDecl.{OpDecl}
 use Rattle.rp_lang.specs.declared.op.OpKind.{OpKind}
 use Rattle.rp_lang.specs.declared.op.OpKind.TheVariants.{Increment}
-use Rattle.crdt_lib.specs.Atoms.{in_range, ints_fit}
-use Rattle.crdt_lib.specs.Calls.{Call}
-use Rattle.crdt_lib.specs.Histories.{IsHistory, args_fit}
-use Rattle.crdt_lib.specs.Doing.{keys_in, int_of, amount_by, amount_of, amount}
+use Rattle.crdt_defs.specs.Atoms.{in_range, ints_fit}
+use Rattle.crdt_defs.specs.Calls.{Call}
+use Rattle.crdt_defs.specs.Histories.{IsHistory, args_fit}
+use Rattle.crdt_defs.specs.Doing.{keys_in, int_of, amount_by, amount_of, amount}
 
 own_fits : (v : Val) → ints_fit v ≡ true → in_range (int_of (Some v)) ≡ true
 own_fits (Int n) e = e

@@ -1,7 +1,7 @@
 -- Tests and sums over the numbers below a bound, one number at a time.
 use Rattle.std.proofs.Common.{◌≡◌, ℕ, zero, suc, ◌+◌, ◌<◌, Bool, true, false, refl, sym, ◌∙◌, ap, add-one, arith, ℤ, ◌+ℤ◌, inl, inr}
 use Rattle.std.proofs.lemmas.Bool.{or_left, or_right, or_from, cases_eq}
-use Rattle.crdt_lib.specs.Counting.{any_below, sum_below}
+use Rattle.crdt_defs.specs.Counting.{any_below, sum_below}
 
 pub any_more : (p : ℕ → Bool) (n : ℕ) → any_below p n ≡ false → p n ≡ false → any_below p (n + 1) ≡ false
 any_more p n h e = rw add-one (or_from (p n) (any_below p n) e h)

@@ -3,11 +3,11 @@ use Rattle.std.proofs.Common.{◌≡◌, ℕ, ◌+◌, ◌<◌, ◌≤◌, Bool,
 use Rattle.std.proofs.lemmas.Bool.{and_right, cases_lt, cases_eq}
 use Rattle.std.proofs.lemmas.List.{get_or_past}
 use Rattle.std.proofs.Math.Path.{fun_ext}
-use Rattle.crdt_lib.specs.declared.call.CallRec.{CallRec}
-use Rattle.crdt_lib.specs.Calls.{Call, calls_view}
-use Rattle.crdt_lib.specs.Counting.{any_below}
-use Rattle.crdt_lib.specs.Snapshots.{bit}
-use Rattle.crdt_lib.specs.Meaning.{among}
+use Rattle.crdt_defs.specs.declared.call.CallRec.{CallRec}
+use Rattle.crdt_defs.specs.Calls.{Call, calls_view}
+use Rattle.crdt_defs.specs.Counting.{any_below}
+use Rattle.crdt_defs.specs.Snapshots.{bit}
+use Rattle.crdt_defs.specs.Meaning.{among}
 use Rattle.crdt_lib.proofs.HistoryLemmas.{seen_length, no_call_past}
 
 -- a row that agrees with a set below its length is that set

@@ -3,10 +3,10 @@ use Rattle.std.proofs.Common.{◌≡◌, ℕ, zero, suc, ◌+◌, ◌-◌, ◌*�
 use Rattle.std.proofs.lemmas.Bool.{and_from, and_left, and_right, leb-true, cases_lt, cases_Bool, true≢false, eqb-true, eq-eqb, lt-ltb, le-ltb, le-leb}
 use Rattle.std.proofs.lemmas.List.{get_or_past}
 use Rattle.std.proofs.Math.Path.{fun_ext}
-use Rattle.crdt_lib.specs.Calls.{Call}
-use Rattle.crdt_lib.specs.Counting.{any_below}
-use Rattle.crdt_lib.specs.Histories.{meets, call_is, same_tx}
-use Rattle.crdt_lib.specs.Snapshots.{bit, IsSnapshot}
+use Rattle.crdt_defs.specs.Calls.{Call}
+use Rattle.crdt_defs.specs.Counting.{any_below}
+use Rattle.crdt_defs.specs.Histories.{meets, call_is, same_tx}
+use Rattle.crdt_defs.specs.Snapshots.{bit, IsSnapshot}
 use Rattle.crdt_lib.specs.means.Blocks.{blocks, is_seen, in_block, is_marked, splits, splits_one}
 use Rattle.crdt_lib.proofs.BelowLemmas.{any_found, none_below}
 use Rattle.crdt_lib.proofs.HistoryLemmas.{no_call_past}

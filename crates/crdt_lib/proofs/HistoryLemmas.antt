@@ -4,9 +4,9 @@ use Rattle.std.specs.Option.{option_map}
 use Rattle.std.proofs.lemmas.Bool.{cases_lt, cases_eq}
 use Rattle.std.proofs.lemmas.Option.{slice_get_past, slice_get-map}
 use Rattle.std.specs.List.Sorted.{IsStrictlyIncreasing}
-use Rattle.crdt_lib.specs.declared.call.CallRec.{CallRec}
-use Rattle.crdt_lib.specs.Calls.{Call, call_view, calls_view}
-use Rattle.crdt_lib.specs.Histories.{IsHistory, MayFollow, meets, call_is, past_of, args_fit}
+use Rattle.crdt_defs.specs.declared.call.CallRec.{CallRec}
+use Rattle.crdt_defs.specs.Calls.{Call, call_view, calls_view}
+use Rattle.crdt_defs.specs.Histories.{IsHistory, MayFollow, meets, call_is, past_of, args_fit}
 
 pub seen_length : (calls : List CallRec) → length (calls_view calls) ≡ length calls
 seen_length [] = refl

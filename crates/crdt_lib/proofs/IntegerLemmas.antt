@@ -3,7 +3,7 @@ use Rattle.std.proofs.Common.{◌≡◌, ◌&&◌, List, [], ◌∷◌, map, ref
 use Rattle.std.specs.List.{list_all}
 use Rattle.rp_value.specs.declared.value.Value.{Value}
 use Rattle.rp_value.specs.ValueView.{value_view, values_view}
-use Rattle.crdt_lib.specs.Atoms.{ints_fit, all_ints_fit}
+use Rattle.crdt_defs.specs.Atoms.{ints_fit, all_ints_fit}
 
 pub ints_listed : (values : List Value) → all_ints_fit (values_view values) ≡ list_all ints_fit (map value_view values)
 ints_listed [] = refl

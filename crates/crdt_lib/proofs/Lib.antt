@@ -9,8 +9,3 @@ pub mod ListedLemmas
 pub mod MemberLemmas
 pub mod NewestLemmas
 pub mod PickedLemmas
-pub mod SameLemmas
-pub mod AskedLemmas
-pub mod GotLemmas
-pub mod BelowLonger
-pub mod QueryLonger

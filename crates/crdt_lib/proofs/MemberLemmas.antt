@@ -5,9 +5,9 @@ use Rattle.std.proofs.lemmas.Bool.{and_left, and_right, and_from, and_parts, or_
 use Rattle.std.specs.Ordering.{nat_cmp, eq_by_cmp}
 use Rattle.std.specs.Cmp.{nat_cmp_total, unsigned_tied}
 use Rattle.std.specs.FinSet as set
-use Rattle.crdt_lib.specs.Calls.{Call}
-use Rattle.crdt_lib.specs.Histories.{meets, past_of}
-use Rattle.crdt_lib.specs.Snapshots.{bit, IsSnapshot}
+use Rattle.crdt_defs.specs.Calls.{Call}
+use Rattle.crdt_defs.specs.Histories.{meets, past_of}
+use Rattle.crdt_defs.specs.Snapshots.{bit, IsSnapshot}
 use Rattle.crdt_lib.specs.means.Blocks.{splits_one}
 use Rattle.crdt_lib.specs.means.Members.{caused_at, without, AreCausedBelow}
 use Rattle.crdt_lib.proofs.BlockLemmas.{none_split}

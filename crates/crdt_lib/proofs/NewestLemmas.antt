@@ -3,10 +3,10 @@ use Rattle.std.proofs.Common.{◌≡◌, ℕ, zero, suc, ◌+◌, ◌<◌, ◌�
 use Rattle.std.proofs.lemmas.Bool.{and_left, and_right, and_from, cases_eq, cases_Bool, ltb-true, ltb-false, lt-ltb, le-ltb, not_from_true, not_from_false, true≢false}
 use Rattle.rp_lang.specs.declared.op.OpDecl.{OpDecl}
 use Rattle.rp_lang.specs.declared.op.OpKind.TheVariants.{Assign}
-use Rattle.crdt_lib.specs.Calls.{Call}
-use Rattle.crdt_lib.specs.Counting.{any_below, first_below, or_this}
-use Rattle.crdt_lib.specs.Doing.{is_of}
-use Rattle.crdt_lib.specs.Meaning.{among, stamp_of, latest}
+use Rattle.crdt_defs.specs.Calls.{Call}
+use Rattle.crdt_defs.specs.Counting.{any_below, first_below, or_this}
+use Rattle.crdt_defs.specs.Doing.{is_of}
+use Rattle.crdt_defs.specs.Meaning.{among, stamp_of, latest}
 use Rattle.crdt_lib.specs.means.Newest.{better}
 use Rattle.crdt_lib.proofs.BelowLemmas.{any_found, none_below}
 

@@ -7,10 +7,10 @@ use Rattle.std.proofs.lemmas.Grind.{take-set_at}
 use Rattle.std.proofs.Math.Path.{fun_ext}
 use Rattle.std.specs.Prelude.{All}
 use Rattle.std.specs.List.{list_any}
-use Rattle.crdt_lib.specs.declared.call.CallRec.{CallRec}
-use Rattle.crdt_lib.specs.Calls.{Call, calls_view}
-use Rattle.crdt_lib.specs.Histories.{before, some_call}
-use Rattle.crdt_lib.specs.Meaning.{among, is_before_one}
+use Rattle.crdt_defs.specs.declared.call.CallRec.{CallRec}
+use Rattle.crdt_defs.specs.Calls.{Call, calls_view}
+use Rattle.crdt_defs.specs.Histories.{before, some_call}
+use Rattle.crdt_defs.specs.Meaning.{among, is_before_one}
 use Rattle.crdt_lib.specs.means.Picked.{listed}
 use Rattle.crdt_lib.proofs.BelowLemmas.{any_found, none_below}
 use Rattle.crdt_lib.proofs.HistoryLemmas.{seen_length, no_call_past}

@@ -2,17 +2,17 @@
 ghost use Rattle.std.specs.Prelude.{◌≡◌, ◌<◌, ◌≤◌, ◌+◌, ◌&&◌, not, ℤ, pos, negsuc, ◌+ℤ◌, ◌≤ℤ◌, if◌then◌else◌, length, slice_get, map, Some, [], ◌∷◌, IfSome, All};
 ghost use Rattle.rp_value.specs.ValueView.{value_view};
 ghost use Rattle.rp_lang.specs.declared.op.OpKind.TheVariants.{Add, Remove, Assign};
-ghost use Rattle.crdt_lib.specs.Calls.{call_view, calls_view};
-ghost use Rattle.crdt_lib.specs.Histories.{some_call};
-ghost use Rattle.crdt_lib.specs.Snapshots.{bit};
-ghost use Rattle.crdt_lib.specs.Doing as spec;
+ghost use Rattle.crdt_defs.specs.Calls.{call_view, calls_view};
+ghost use Rattle.crdt_defs.specs.Histories.{some_call};
+ghost use Rattle.crdt_defs.specs.Snapshots.{bit};
+ghost use Rattle.crdt_defs.specs.Doing as spec;
 ghost use Rattle.crdt_lib.specs.means.Newest.{better};
-ghost use Rattle.crdt_lib.specs.Meaning.{among, at_key, one_stays, contains_add_wins, contains_remove_wins, contains_value, stamp_of, latest, counter_sum};
+ghost use Rattle.crdt_defs.specs.Meaning.{among, at_key, one_stays, contains_add_wins, contains_remove_wins, contains_value, stamp_of, latest, counter_sum};
 ghost use Rattle.crdt_lib.specs.means.Picked.{listed};
-ghost use Rattle.crdt_lib.specs.Queries.{answer_at, at_call};
+ghost use Rattle.crdt_defs.specs.Queries.{answer_at, at_call};
 
-use crate::asked::{Answer, Found, Question, Winner};
-use crate::call::CallRec;
+use crdt_defs::{Answer, Found, Question, Winner};
+use crdt_defs::CallRec;
 use crate::doing::keys_in;
 use crate::history::{History, MOST};
 use crate::picked::{any_stays, is_any, pick, pick_kind};
@@ -147,7 +147,7 @@ fn int_in(value: &Value) -> i128
     }
 }
 
-#[tactic(auto, using(crate::proofs::SameLemmas::arg_seen))]
+#[tactic(auto, using(crdt_defs::proofs::SameLemmas::arg_seen))]
 fn int_at(args: &[Value], i: usize) -> i128
     ensures { result ≡ spec.int_of (slice_get (map value_view args.now) i) }
 {

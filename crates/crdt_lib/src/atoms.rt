@@ -2,7 +2,7 @@
 ghost use Rattle.std.specs.Prelude.{◌≡◌, ◌↔◌, ◌++◌, ℕ, Contains, IfOk, OnOk};
 ghost use Rattle.std.specs.List.Sorted.{IsStrictlyIncreasing};
 ghost use Rattle.rp_value.specs.ValueView.{value_view, values_view};
-ghost use Rattle.crdt_lib.specs.Atoms as spec;
+ghost use Rattle.crdt_defs.specs.Atoms as spec;
 
 use rp_value::{List, Memory, Value};
 use std::alloc::Global;

@@ -1,11 +1,11 @@
 // What a call does.
 ghost use Rattle.std.specs.Prelude.{◌≡◌, ◌≤◌, ◌&&◌, length, slice_get, map, take, nat_eq};
 ghost use Rattle.rp_value.specs.ValueView.{value_view};
-ghost use Rattle.crdt_lib.specs.SameValues.{same_val, value_is};
-ghost use Rattle.crdt_lib.specs.Calls.{call_view};
-ghost use Rattle.crdt_lib.specs.Doing as spec;
+ghost use Rattle.crdt_defs.specs.SameValues.{same_val, value_is};
+ghost use Rattle.crdt_defs.specs.Calls.{call_view};
+ghost use Rattle.crdt_defs.specs.Doing as spec;
 
-use crate::call::CallRec;
+use crdt_defs::CallRec;
 use rp_lang::{OpDecl, OpKind, PathStep};
 use rp_value::Value;
 
@@ -63,7 +63,7 @@ fn same(a: &Value, b: &Value) -> bool
 }
 
 /// Whether there is an argument i, and it is x.
-#[tactic(auto, using(crate::proofs::SameLemmas::arg_seen))]
+#[tactic(auto, using(crdt_defs::proofs::SameLemmas::arg_seen))]
 fn arg_is(args: &[Value], i: usize, x: &Value) -> bool
     ensures { result ≡ value_is (value_view x.now) (slice_get (map value_view args.now) i) }
 {

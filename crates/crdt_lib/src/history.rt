@@ -1,10 +1,10 @@
 ghost use Rattle.std.specs.Prelude.{◌≡◌, ◌↔◌, ◌<◌, ◌++◌, [], ◌∷◌, ℕ, length, slice_get, slice_index, All, EachIndex, IsTrue, OnOk, OnErr, nat_eq};
 ghost use Rattle.std.specs.List.{list_any};
 ghost use Rattle.std.specs.List.Sorted.{IsStrictlyIncreasing};
-ghost use Rattle.crdt_lib.specs.Calls.{call_view, calls_view};
-ghost use Rattle.crdt_lib.specs.Histories.{IsHistory, MayFollow, before};
+ghost use Rattle.crdt_defs.specs.Calls.{call_view, calls_view};
+ghost use Rattle.crdt_defs.specs.Histories.{IsHistory, MayFollow, before};
 
-use crate::call::CallRec;
+use crdt_defs::CallRec;
 use crate::integers::args_fit;
 use rp_value::{List, Memory};
 use std::alloc::Global;
@@ -22,15 +22,15 @@ pub struct History {
 impl Model for History {
     ghost use Rattle.std.specs.Prelude.{List};
     ghost use Rattle.std.specs.Coded.{coded_list};
-    ghost use Rattle.crdt_lib.specs.declared.call.CallRec.{CallRec};
-    ghost use Rattle.crdt_lib.specs.contracts.call.CallRec as call;
+    ghost use Rattle.crdt_defs.specs.declared.call.CallRec.{CallRec};
+    ghost use Rattle.crdt_defs.specs.contracts.call.CallRec as call;
 
     ghost Value = { List CallRec };
 
     ghost coded = { coded_list call.the_row.coded };
 
-    ghost use Rattle.crdt_lib.specs.Calls.{calls_view};
-    ghost use Rattle.crdt_lib.specs.Histories.{IsHistory};
+    ghost use Rattle.crdt_defs.specs.Calls.{calls_view};
+    ghost use Rattle.crdt_defs.specs.Histories.{IsHistory};
 
     ghost view = { λ h. h.calls };
 

@@ -2,7 +2,7 @@
 ghost use Rattle.std.specs.Prelude.{◌≡◌, map};
 ghost use Rattle.std.specs.List.{list_all};
 ghost use Rattle.rp_value.specs.ValueView.{value_view, values_view};
-ghost use Rattle.crdt_lib.specs.Atoms as spec;
+ghost use Rattle.crdt_defs.specs.Atoms as spec;
 
 use rp_value::Value;
 

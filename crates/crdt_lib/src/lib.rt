@@ -2,22 +2,17 @@
 #![tactic(auto)]
 
 mod answer;
-mod asked;
 mod atoms;
-mod call;
 mod doing;
 mod history;
 mod integers;
 mod picked;
 mod query;
 mod row;
-pub mod rows;
 mod snapshot;
 mod view;
 
-pub use asked::{Answer, Found, Question, Winner};
 pub use atoms::atoms_of;
-pub use call::CallRec;
 pub use history::History;
 pub use query::{holds, query_holds, query_value, value_of};
 pub use snapshot::is_snapshot;

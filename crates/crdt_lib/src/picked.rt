@@ -1,11 +1,11 @@
 // Calls that decide a query, as a list of their numbers, so that a candidate is compared with each of them alone.
 ghost use Rattle.std.specs.Prelude.{◌≡◌, ◌<◌, ◌≤◌, ◌&&◌, not, length, take, All};
 ghost use Rattle.rp_value.specs.ValueView.{value_view};
-ghost use Rattle.crdt_lib.specs.Calls.{calls_view};
-ghost use Rattle.crdt_lib.specs.Histories.{some_call};
-ghost use Rattle.crdt_lib.specs.Snapshots.{bit};
-ghost use Rattle.crdt_lib.specs.Doing as spec;
-ghost use Rattle.crdt_lib.specs.Meaning.{among, is_before_one, one_stays};
+ghost use Rattle.crdt_defs.specs.Calls.{calls_view};
+ghost use Rattle.crdt_defs.specs.Histories.{some_call};
+ghost use Rattle.crdt_defs.specs.Snapshots.{bit};
+ghost use Rattle.crdt_defs.specs.Doing as spec;
+ghost use Rattle.crdt_defs.specs.Meaning.{among, is_before_one, one_stays};
 ghost use Rattle.crdt_lib.specs.means.Picked.{listed};
 
 use crate::history::{History, MOST};

@@ -2,13 +2,13 @@
 ghost use Rattle.std.specs.Prelude.{◌≡◌, ◌<◌, ℕ, ◌&&◌, not, length};
 ghost use Rattle.std.specs.FinSet as set;
 ghost use Rattle.rp_value.specs.ValueView.{value_view};
-ghost use Rattle.crdt_lib.specs.Calls.{calls_view};
-ghost use Rattle.crdt_lib.specs.Histories.{call_is, some_call};
-ghost use Rattle.crdt_lib.specs.Snapshots.{bit};
-ghost use Rattle.crdt_lib.specs.Doing as spec;
-ghost use Rattle.crdt_lib.specs.Meaning.{among, in_field, at_key, loses};
+ghost use Rattle.crdt_defs.specs.Calls.{calls_view};
+ghost use Rattle.crdt_defs.specs.Histories.{call_is, some_call};
+ghost use Rattle.crdt_defs.specs.Snapshots.{bit};
+ghost use Rattle.crdt_defs.specs.Doing as spec;
+ghost use Rattle.crdt_defs.specs.Meaning.{among, in_field, at_key, loses};
 
-use crate::asked::Winner;
+use crdt_defs::Winner;
 use crate::doing::{deletes, does, goes_to_field, goes_to_key, is_of, on_root};
 use crate::history::History;
 use crate::view::View;

@@ -1,10 +1,10 @@
 ghost use Rattle.std.specs.Prelude.{◌≡◌, ◌<◌, ◌↔◌, IsTrue, ℕ, ◌+◌, ◌&&◌, ◌||◌, false, length, slice_get, nat_eq, not};
 ghost use Rattle.std.specs.List.{list_all};
 ghost use Rattle.std.specs.FinSet as set;
-ghost use Rattle.crdt_lib.specs.Calls.{calls_view};
-ghost use Rattle.crdt_lib.specs.Counting.{any_below};
-ghost use Rattle.crdt_lib.specs.Histories.{call_is, past_of};
-ghost use Rattle.crdt_lib.specs.Snapshots.{bit, IsSnapshot};
+ghost use Rattle.crdt_defs.specs.Calls.{calls_view};
+ghost use Rattle.crdt_defs.specs.Counting.{any_below};
+ghost use Rattle.crdt_defs.specs.Histories.{call_is, past_of};
+ghost use Rattle.crdt_defs.specs.Snapshots.{bit, IsSnapshot};
 ghost use Rattle.crdt_lib.specs.means.Members.{caused_at, AreCaused};
 ghost use Rattle.crdt_lib.specs.means.Blocks as spec;
 

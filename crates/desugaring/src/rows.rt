@@ -16,7 +16,7 @@ ghost use Rattle.desugaring.specs.rows.Rows.{means, ex, var, number, call, compa
 ghost use Rattle.desugaring.specs.Values.{term, formula, one_ex};
 ghost use Rattle.rp_lang.specs.rows.Samples as sample;
 ghost use Rattle.desugaring.specs.rows.SetTrees as tree;
-ghost use Rattle.rp_grammar.specs.Rows.{tautology_tree};
+ghost use Rattle.rp_grammar.specs.rows.Rows.{tautology_tree};
 ghost use Rattle.rp_lang.specs.FirstForm.{over_truth_values};
 ghost use Rattle.type_rules.specs.Faults.{first_fault};
 ghost use Rattle.desugaring.specs.Programs.{program_of};

@@ -20,11 +20,11 @@ use Rattle.rp_lang.specs.Types.{same_ty, is_ty}
 use Rattle.rp_lang.specs.Typing.{query_args, is_get, value_asked}
 use Rattle.rp_lang.specs.Paths.{reached, own_args, root_crdt, value_of, amounts_of, is_maybe_in, query_fits, query_stands, is_query, is_tx_kind, op_fits}
 use Rattle.rp_lang.specs.Programs.{Prog}
-use Rattle.crdt_lib.specs.Calls.{Call}
-use Rattle.crdt_lib.specs.Doing.{is_key, keys_in, own_of, own_argument, on_root}
-use Rattle.crdt_lib.specs.Meaning.{among}
-use Rattle.crdt_lib.specs.Truths.{or_false, asked}
-use Rattle.crdt_lib.proofs.GotLemmas.{met-call, met-op, IsAssign, IsGot, asked-sum, asked-reg}
+use Rattle.crdt_defs.specs.Calls.{Call}
+use Rattle.crdt_defs.specs.Doing.{is_key, keys_in, own_of, own_argument, on_root}
+use Rattle.crdt_defs.specs.Meaning.{among}
+use Rattle.crdt_defs.specs.Truths.{or_false, asked}
+use Rattle.crdt_defs.proofs.GotLemmas.{met-call, met-op, IsAssign, IsGot, asked-sum, asked-reg}
 use Rattle.event_machine.specs.Fitting.{fits, fields_fit, all_fit}
 use Rattle.event_machine.specs.Machine.{Invocation, State, at_invocation}
 use Rattle.event_machine.specs.WellFormed.{At}

@@ -9,7 +9,7 @@ use Rattle.rp_value.specs.Values.{Val}
 use Rattle.rp_lang.specs.FirstForm.{IsFirstForm, is_over_truth_values, over_truth_values}
 use Rattle.rp_lang.specs.Programs.{Proc, Prog}
 use Rattle.rp_lang.proofs.ProgramLemmas.{proc_facts}
-use Rattle.crdt_lib.specs.Truths.{truth_val, truth}
+use Rattle.crdt_defs.specs.Truths.{truth_val, truth}
 use Rattle.event_machine.specs.Code.{Code}
 use Rattle.event_machine.specs.Checks.{Checks, Done, Assert, Choose, stmts_checks}
 use Rattle.event_machine.specs.Propositions as prop

@@ -12,7 +12,7 @@ use Rattle.rp_lang.specs.Formulas.{Fo, Fos, And, Or, Not, Implies, Holds, no_fo,
 use Rattle.rp_lang.specs.Stmts as st
 use Rattle.rp_lang.specs.Stmts.{St, Sts, no_st, also_st}
 use Rattle.rp_lang.specs.Programs.{Proc}
-use Rattle.crdt_lib.specs.Truths.{Reading, truth_val, is_true, value, truth, all_true, any_true}
+use Rattle.crdt_defs.specs.Truths.{Reading, truth_val, is_true, value, truth, all_true, any_true}
 use Rattle.event_machine.specs.Code as left
 use Rattle.event_machine.specs.Code.{Code, code, codes, proc_code}
 use Rattle.event_machine.specs.Checks.{Checks, Done, Assert, Choose, stmt_checks, stmts_checks}

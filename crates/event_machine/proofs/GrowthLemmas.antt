@@ -5,8 +5,8 @@ use Rattle.std.specs.declared.option.Option.TheVariants.{None, Some}
 use Rattle.rp_value.specs.Values.{Val}
 use Rattle.rp_lang.specs.Programs.{Proc, Prog}
 use Rattle.rp_lang.specs.WellFormed.{is_well_formed}
-use Rattle.crdt_lib.specs.Calls.{Call}
-use Rattle.crdt_lib.specs.Truths.{list_of, values}
+use Rattle.crdt_defs.specs.Calls.{Call}
+use Rattle.crdt_defs.specs.Truths.{list_of, values}
 use Rattle.event_machine.specs.Machine.{Standing, Running, Failed, Invocation, Tx, State, Label, Invoke, Begin, Op, Local, New, Commit, Return, Fail, Check, named, own_calls, reading_set, at_invocation, stands_in, is_generated, with_invocation, with_slot, started, begun, operated, committed, step}
 use Rattle.event_machine.specs.Runs.{Leads}
 use Rattle.event_machine.specs.WellFormed.{At, In, Committed, opened_by, Inside, InSlots, ProcsFit, IsWellFormed}

@@ -4,15 +4,15 @@ use Rattle.std.specs.declared.option.Option.TheVariants.{Some}
 use Rattle.std.proofs.lemmas.Option.{none-some}
 use Rattle.rp_lang.specs.Formulas.{Fo}
 use Rattle.rp_lang.specs.Programs.{Prog}
-use Rattle.crdt_lib.specs.Calls.{Call}
-use Rattle.crdt_lib.specs.Histories.{call_is}
-use Rattle.crdt_lib.specs.Snapshots.{bit}
-use Rattle.crdt_lib.specs.Truths.{truth}
+use Rattle.crdt_defs.specs.Calls.{Call}
+use Rattle.crdt_defs.specs.Histories.{call_is}
+use Rattle.crdt_defs.specs.Snapshots.{bit}
+use Rattle.crdt_defs.specs.Truths.{truth}
 use Rattle.event_machine.specs.Machine.{Tx, State, info, at_snapshot}
 use Rattle.event_machine.specs.WellFormed.{opened_by, commits_of}
 use Rattle.event_machine.specs.Growth.{IsValid}
 use Rattle.event_machine.specs.OldCalls.{old}
-use Rattle.crdt_lib.specs.Longer.{IsLonger, Bounded}
+use Rattle.crdt_defs.specs.Longer.{IsLonger, Bounded}
 use Rattle.event_machine.specs.Beside.{beside}
 use Rattle.event_machine.specs.OwnCalls.{HasOneMarker, PastsGrow, PastsAreOwn, OwnAreSeen, MarkersAreSeen, ViewsAreMarked}
 use Rattle.event_machine.proofs.PlaceLemmas.{at-one}

@@ -8,11 +8,11 @@ use Rattle.rp_value.specs.Values as val
 use Rattle.rp_value.specs.Values.{Val, Atom}
 use Rattle.rp_lang.specs.Exprs.{Ex, Exs}
 use Rattle.rp_lang.specs.Programs.{Proc, Prog}
-use Rattle.crdt_lib.specs.Calls.{Call}
-use Rattle.crdt_lib.specs.SameValues.{same_val}
-use Rattle.crdt_lib.specs.Snapshots.{IsSnapshot}
-use Rattle.crdt_lib.specs.Truths.{list_of, value, values}
-use Rattle.crdt_lib.proofs.SameLemmas.{same_val_is, same_val_itself}
+use Rattle.crdt_defs.specs.Calls.{Call}
+use Rattle.crdt_defs.specs.SameValues.{same_val}
+use Rattle.crdt_defs.specs.Snapshots.{IsSnapshot}
+use Rattle.crdt_defs.specs.Truths.{list_of, value, values}
+use Rattle.crdt_defs.proofs.SameLemmas.{same_val_is, same_val_itself}
 use Rattle.event_machine.specs.Code as left
 use Rattle.event_machine.specs.Code.{Code, proc_code}
 use Rattle.event_machine.specs.Fitting.{fits, all_fit, names_ids, is_id, is_below}

@@ -10,12 +10,12 @@ use Rattle.rp_value.specs.Values as val
 use Rattle.rp_value.specs.Values.{Val, Vals, no_val, also_val}
 use Rattle.rp_lang.specs.Exprs.{Ex, Exs}
 use Rattle.rp_lang.specs.Programs.{Proc, Inv, Prog}
-use Rattle.crdt_lib.specs.Calls.{Call}
-use Rattle.crdt_lib.specs.Counting.{any_below, or_this, first_below}
-use Rattle.crdt_lib.specs.Meaning.{is_before_one, stamp_of}
-use Rattle.crdt_lib.specs.SameValues.{same_val}
-use Rattle.crdt_lib.specs.Truths.{Reading, truth_val, list_of, value, values, truth, is_built}
-use Rattle.crdt_lib.proofs.SameLemmas.{same_val_is}
+use Rattle.crdt_defs.specs.Calls.{Call}
+use Rattle.crdt_defs.specs.Counting.{any_below, or_this, first_below}
+use Rattle.crdt_defs.specs.Meaning.{is_before_one, stamp_of}
+use Rattle.crdt_defs.specs.SameValues.{same_val}
+use Rattle.crdt_defs.specs.Truths.{Reading, truth_val, list_of, value, values, truth, is_built}
+use Rattle.crdt_defs.proofs.SameLemmas.{same_val_is}
 use Rattle.event_machine.specs.Code as left
 use Rattle.event_machine.specs.Code.{Code, CodeArms, no_code, also_code}
 use Rattle.event_machine.specs.Fitting.{fits, all_fit, atoms, all_atoms, is_id, is_below}

@@ -2,7 +2,7 @@
 use Rattle.std.proofs.Common.{◌≡◌, ◌≢◌, ℕ, ◌<◌, refl, sym, ◌∙◌, subst, arith, ◌⊎◌, inl, inr, lt_trans}
 use Rattle.std.specs.declared.option.Option.TheVariants.{Some}
 use Rattle.rp_lang.specs.Programs.{Prog}
-use Rattle.crdt_lib.specs.Calls.{Call}
+use Rattle.crdt_defs.specs.Calls.{Call}
 use Rattle.event_machine.specs.Machine.{Running, Invocation, State}
 use Rattle.event_machine.specs.WellFormed.{At, In, Past, IsMarker, IsCausal}
 use Rattle.event_machine.specs.Growth.{IsValid}

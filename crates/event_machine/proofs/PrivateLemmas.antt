@@ -8,10 +8,10 @@ use Rattle.rp_value.specs.declared.tables.Ty.TheVariants as ty
 use Rattle.rp_value.specs.Values as val
 use Rattle.rp_value.specs.Values.{Val}
 use Rattle.rp_lang.specs.Programs.{Prog}
-use Rattle.crdt_lib.specs.Calls.{Call}
-use Rattle.crdt_lib.specs.SameValues.{same_val}
-use Rattle.crdt_lib.specs.Truths.{list_of, values}
-use Rattle.crdt_lib.proofs.SameLemmas.{same_val_itself}
+use Rattle.crdt_defs.specs.Calls.{Call}
+use Rattle.crdt_defs.specs.SameValues.{same_val}
+use Rattle.crdt_defs.specs.Truths.{list_of, values}
+use Rattle.crdt_defs.proofs.SameLemmas.{same_val_itself}
 use Rattle.event_machine.specs.Code as left
 use Rattle.event_machine.specs.Code.{Code}
 use Rattle.event_machine.specs.Fitting.{fits, is_id, names_ids}

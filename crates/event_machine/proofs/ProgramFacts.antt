@@ -8,7 +8,7 @@ use Rattle.rp_value.specs.Values.{Con, no_val}
 use Rattle.rp_lang.specs.Types as types
 use Rattle.rp_lang.specs.Types.{bool_ty, datatype_of, cons_in, is_bare_con, are_none_and_some, is_maybe_of}
 use Rattle.rp_lang.specs.Programs.{Prog}
-use Rattle.crdt_lib.specs.Truths.{truth_val, con_of, nth_con}
+use Rattle.crdt_defs.specs.Truths.{truth_val, con_of, nth_con}
 use Rattle.event_machine.specs.Fitting.{fits, fields_fit}
 use Rattle.event_machine.specs.WellFormed.{At}
 use Rattle.event_machine.proofs.FormLemmas.{both_true}

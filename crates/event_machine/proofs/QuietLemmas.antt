@@ -3,9 +3,9 @@ use Rattle.std.proofs.Common.{◌≡◌, ◌≢◌, ℕ, zero, suc, Bool, true, 
 use Rattle.std.specs.declared.option.Option.TheVariants.{Some}
 use Rattle.std.proofs.lemmas.Option.{none-some, same_Some}
 use Rattle.rp_lang.specs.Programs.{Prog}
-use Rattle.crdt_lib.specs.Calls.{Call}
-use Rattle.crdt_lib.specs.Snapshots.{bit}
-use Rattle.crdt_lib.specs.Truths.{list_of, values, truth}
+use Rattle.crdt_defs.specs.Calls.{Call}
+use Rattle.crdt_defs.specs.Snapshots.{bit}
+use Rattle.crdt_defs.specs.Truths.{list_of, values, truth}
 use Rattle.event_machine.specs.Machine.{Failed, Invocation, Tx, State, Label, Invoke, Begin, Op, Local, New, Commit, Return, Fail, Check, info, calls_of, result_of, at_invocation, with_slot, step}
 use Rattle.event_machine.specs.Runs.{Leads}
 use Rattle.event_machine.specs.WellFormed.{At, Committed, opened_by, commits_of}

@@ -9,11 +9,11 @@ use Rattle.std.proofs.lemmas.List.Folds.{list_any-append}
 use Rattle.rp_value.specs.Values.{Val, Vals, no_val, also_val}
 use Rattle.rp_lang.specs.Exprs.{Ex, Exs, Slot, Con, Query, OriginOf, no_ex, also_ex}
 use Rattle.rp_lang.specs.declared.op.OpDecl.{OpDecl}
-use Rattle.crdt_lib.specs.Calls.{Call}
-use Rattle.crdt_lib.specs.Doing.{own_of, own_argument, keys_in}
-use Rattle.crdt_lib.specs.SameValues.{same_val}
-use Rattle.crdt_lib.specs.Truths.{Reading, truth_val, slot_value, or_false, list_of, asked, origin_of, call_at, value, values}
-use Rattle.crdt_lib.proofs.AskedLemmas.{asked_is}
+use Rattle.crdt_defs.specs.Calls.{Call}
+use Rattle.crdt_defs.specs.Doing.{own_of, own_argument, keys_in}
+use Rattle.crdt_defs.specs.SameValues.{same_val}
+use Rattle.crdt_defs.specs.Truths.{Reading, truth_val, slot_value, or_false, list_of, asked, origin_of, call_at, value, values}
+use Rattle.crdt_defs.proofs.AskedLemmas.{asked_is}
 use Rattle.event_machine.specs.Fitting.{atoms, all_atoms, atoms_in_fields}
 use Rattle.event_machine.specs.WellFormed.{At, In, Inside, StandsIn, InSlots}
 use Rattle.event_machine.proofs.PlaceLemmas.{or-cases, or-left, or-right}

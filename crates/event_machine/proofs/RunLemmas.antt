@@ -7,7 +7,7 @@ use Rattle.std.proofs.lemmas.Option.{none-some, same_Some}
 use Rattle.rp_value.specs.Values.{Val}
 use Rattle.rp_lang.specs.Programs.{Inv, Proc, Prog}
 use Rattle.rp_lang.specs.WellFormed.{is_well_formed}
-use Rattle.crdt_lib.specs.Truths.{Reading, truth}
+use Rattle.crdt_defs.specs.Truths.{Reading, truth}
 use Rattle.event_machine.specs.Machine.{Invocation, State, empty, Label, Invoke, Begin, Op, Local, New, Commit, Return, Fail, Check, Why, NoInvocation, NotRunning, What, Invariant, Answer, Moved, Violated, unless, is_running, calls_of, at_snapshot, named, started, checked, effect, refusal, unless_refused, step}
 use Rattle.event_machine.specs.Runs.{Leads, Run, Violates, IsSafe}
 use Rattle.event_machine.specs.WellFormed.{At, IsWellFormed}

@@ -3,10 +3,10 @@ use Rattle.std.proofs.Common.{◌≡◌, ◌≢◌, ℕ, Bool, true, false, List
 use Rattle.std.specs.List.{list_any}
 use Rattle.std.proofs.lemmas.Bool.{and_parts}
 use Rattle.rp_lang.specs.Programs.{Prog}
-use Rattle.crdt_lib.specs.Calls.{Call}
-use Rattle.crdt_lib.specs.Histories.{before}
-use Rattle.crdt_lib.specs.Snapshots.{bit}
-use Rattle.crdt_lib.specs.Truths.{list_of, values}
+use Rattle.crdt_defs.specs.Calls.{Call}
+use Rattle.crdt_defs.specs.Histories.{before}
+use Rattle.crdt_defs.specs.Snapshots.{bit}
+use Rattle.crdt_defs.specs.Truths.{list_of, values}
 use Rattle.event_machine.specs.Machine.{Tx, State, Label, Invoke, Begin, Op, Local, New, Commit, Return, Fail, Check, at_invocation, step}
 use Rattle.event_machine.specs.Runs.{Leads}
 use Rattle.event_machine.specs.WellFormed.{At, Past, Committed, IsMarker, commits_of, IsCausal}

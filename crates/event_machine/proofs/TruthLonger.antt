@@ -14,19 +14,19 @@ use Rattle.rp_lang.specs.Programs.{Prog}
 use Rattle.std.specs.List.{list_any}
 use Rattle.std.specs.Prelude.{nat_eq}
 use Rattle.std.proofs.lemmas.Bool.{and_parts}
-use Rattle.crdt_lib.specs.Calls.{Call}
-use Rattle.crdt_lib.specs.Counting.{all_below}
-use Rattle.crdt_lib.specs.Doing.{own_argument, own_of, keys_in}
-use Rattle.crdt_lib.specs.Histories.{call_is, before, some_call}
-use Rattle.crdt_lib.specs.Parts.{Info, is_committed, each_member, some_member, is_done_by, is_before_all_of, inv_before}
-use Rattle.crdt_lib.specs.Queries.{answer_in}
-use Rattle.crdt_lib.specs.Snapshots.{bit}
-use Rattle.crdt_lib.specs.Truths.{Reading, slot_value, or_false, number, list_of, truth_val, answer_val, asked, origin_of, operation_of, call_at, is_visible, is_before, is_same, value, values, Plain, Operation, Invoked, EndedWith, info_of, info_at, result_of, meant, same_meant, is_true, is_built, bind, bind_fields, truth, all_true, any_true, arm_true}
-use Rattle.crdt_lib.proofs.AskedLemmas.{answer-visible, asked_is}
+use Rattle.crdt_defs.specs.Calls.{Call}
+use Rattle.crdt_defs.specs.Counting.{all_below}
+use Rattle.crdt_defs.specs.Doing.{own_argument, own_of, keys_in}
+use Rattle.crdt_defs.specs.Histories.{call_is, before, some_call}
+use Rattle.crdt_defs.specs.Parts.{Info, is_committed, each_member, some_member, is_done_by, is_before_all_of, inv_before}
+use Rattle.crdt_defs.specs.Queries.{answer_in}
+use Rattle.crdt_defs.specs.Snapshots.{bit}
+use Rattle.crdt_defs.specs.Truths.{Reading, slot_value, or_false, number, list_of, truth_val, answer_val, asked, origin_of, operation_of, call_at, is_visible, is_before, is_same, value, values, Plain, Operation, Invoked, EndedWith, info_of, info_at, result_of, meant, same_meant, is_true, is_built, bind, bind_fields, truth, all_true, any_true, arm_true}
+use Rattle.crdt_defs.proofs.AskedLemmas.{answer-visible, asked_is}
 use Rattle.event_machine.specs.WellFormed as formed
-use Rattle.crdt_lib.specs.Longer.{IsLonger, Bounded}
-use Rattle.crdt_lib.proofs.BelowLonger.{any-same, all-same, any-longer, all-longer}
-use Rattle.crdt_lib.proofs.QueryLonger.{answer-val-same, outside, guarded, call-same, query-same, some-same}
+use Rattle.crdt_defs.specs.Longer.{IsLonger, Bounded}
+use Rattle.crdt_defs.proofs.BelowLonger.{any-same, all-same, any-longer, all-longer}
+use Rattle.crdt_defs.proofs.QueryLonger.{answer-val-same, outside, guarded, call-same, query-same, some-same}
 use Rattle.event_machine.proofs.PlaceLemmas.{in-call_is, at-lt}
 
 -- # Values of which the calls inside are below n

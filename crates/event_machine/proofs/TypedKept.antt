@@ -15,8 +15,8 @@ use Rattle.rp_lang.specs.Typing.{type_of}
 use Rattle.rp_lang.specs.Exprs.{Ex}
 use Rattle.rp_lang.specs.Programs.{Proc, Prog}
 use Rattle.rp_lang.specs.WellFormed.{begins, is_result, is_procedure, are_ops, is_well_formed}
-use Rattle.crdt_lib.specs.Calls.{Call}
-use Rattle.crdt_lib.specs.Truths.{truth_val, list_of, value, values, truth, is_built}
+use Rattle.crdt_defs.specs.Calls.{Call}
+use Rattle.crdt_defs.specs.Truths.{truth_val, list_of, value, values, truth, is_built}
 use Rattle.event_machine.specs.Code as left
 use Rattle.event_machine.specs.Code.{Code, CodeArms, no_code, also_code, proc_code}
 use Rattle.event_machine.specs.Fitting as fitting

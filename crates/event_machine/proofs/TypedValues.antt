@@ -14,7 +14,7 @@ use Rattle.rp_lang.specs.Types.{same_ty, is_ty, agree, is_ordinary, are_ordinary
 use Rattle.rp_lang.specs.Typing.{query_args, value_asked, slot_ty, type_of, have_types}
 use Rattle.rp_lang.specs.Exprs.{Ex, Slot, Bound, Int, Str, Con, Plus, Add, Sub, Query, OpOf, OpTerm, OriginOf, InfoOf, InfoTerm, ResultOf, ResultTerm, ResultWith, Unreturned, Exs, no_ex, also_ex}
 use Rattle.rp_lang.specs.Programs.{Proc, Prog}
-use Rattle.crdt_lib.specs.Truths.{slot_value, list_of, asked, value, values}
+use Rattle.crdt_defs.specs.Truths.{slot_value, list_of, asked, value, values}
 use Rattle.event_machine.specs.Fitting.{cons_to, fields_of, fits, fields_fit}
 use Rattle.event_machine.specs.Machine.{Invocation, State, at_invocation}
 use Rattle.event_machine.specs.TypedStates.{frame_in, SlotsFit, AreSet}

@@ -1,8 +1,8 @@
 -- What an invariant reads where the history has further calls.
 use Rattle.std.specs.Prelude.{ℕ, Bool, List}
 use Rattle.rp_lang.specs.Programs.{Prog}
-use Rattle.crdt_lib.specs.Calls.{Call}
-use Rattle.crdt_lib.specs.Truths.{Reading}
+use Rattle.crdt_defs.specs.Calls.{Call}
+use Rattle.crdt_defs.specs.Truths.{Reading}
 use Rattle.event_machine.specs.Machine.{State, at_snapshot, plain}
 
 -- at these visible calls of a state, in this history and with these transactions committed

@@ -2,7 +2,7 @@
 use Rattle.std.specs.Prelude.{◌≡◌, ◌≢◌, ℕ, true, Some}
 use Rattle.rp_value.specs.Values.{Val}
 use Rattle.rp_lang.specs.Programs.{Prog}
-use Rattle.crdt_lib.specs.Calls.{Call}
+use Rattle.crdt_defs.specs.Calls.{Call}
 use Rattle.event_machine.specs.Machine.{Running, Invocation, Tx, State, stands_in, is_generated}
 use Rattle.event_machine.specs.WellFormed.{At, Inside, InSlots, IsWellFormed}
 use Rattle.event_machine.specs.TypedStates.{IsTyped}

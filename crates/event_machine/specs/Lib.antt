@@ -14,5 +14,4 @@ pub mod Propositions
 pub mod Checks
 pub mod Goals
 pub mod Tests
-pub mod Samples
-pub mod Worked
+pub mod rows

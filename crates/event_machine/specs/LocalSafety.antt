@@ -2,8 +2,8 @@
 use Rattle.std.specs.Prelude.{◌≡◌, ℕ, zero, suc, ◌≤◌, Bool, true, List, [], length, Some}
 use Rattle.rp_value.specs.Values.{Val}
 use Rattle.rp_lang.specs.Programs.{Inv, Prog}
-use Rattle.crdt_lib.specs.Snapshots.{IsSnapshot}
-use Rattle.crdt_lib.specs.Truths.{truth}
+use Rattle.crdt_defs.specs.Snapshots.{IsSnapshot}
+use Rattle.crdt_defs.specs.Truths.{truth}
 use Rattle.event_machine.specs.Machine.{Running, Invocation, State, empty, Label, Invoke, at_snapshot, named, step}
 use Rattle.event_machine.specs.Runs.{Leads, Violates}
 use Rattle.event_machine.specs.WellFormed.{At, commits_of}

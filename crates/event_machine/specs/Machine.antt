@@ -6,14 +6,14 @@ use Rattle.std.specs.Option.{option_map_or}
 use Rattle.rp_value.specs.declared.tables.Ty.TheVariants as ty
 use Rattle.rp_value.specs.Values.{Val, Con, Vals, also_val}
 use Rattle.rp_lang.specs.Programs.{Proc, Inv, Prog}
-use Rattle.crdt_lib.specs.Calls.{Call}
-use Rattle.crdt_lib.specs.Counting.{first_below}
-use Rattle.crdt_lib.specs.Histories.{call_is, some_call}
-use Rattle.crdt_lib.specs.Meaning.{is_before_one, stamp_of}
-use Rattle.crdt_lib.specs.Parts as parts
-use Rattle.crdt_lib.specs.Parts.{Info, Parts, Result}
-use Rattle.crdt_lib.specs.SameValues.{same_val}
-use Rattle.crdt_lib.specs.Truths.{Reading, truth_val, list_of, value, values, truth, is_built}
+use Rattle.crdt_defs.specs.Calls.{Call}
+use Rattle.crdt_defs.specs.Counting.{first_below}
+use Rattle.crdt_defs.specs.Histories.{call_is, some_call}
+use Rattle.crdt_defs.specs.Meaning.{is_before_one, stamp_of}
+use Rattle.crdt_defs.specs.Parts as parts
+use Rattle.crdt_defs.specs.Parts.{Info, Parts, Result}
+use Rattle.crdt_defs.specs.SameValues.{same_val}
+use Rattle.crdt_defs.specs.Truths.{Reading, truth_val, list_of, value, values, truth, is_built}
 use Rattle.event_machine.specs.Code as left
 use Rattle.event_machine.specs.Code.{Code, CodeArms, no_code, also_code, proc_code}
 use Rattle.event_machine.specs.Fitting.{fits, all_fit, atoms, all_atoms, is_id, is_below}

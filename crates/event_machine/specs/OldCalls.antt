@@ -1,6 +1,6 @@
 -- The calls that a state has committed: to what comes later they are the old ones.
 use Rattle.std.specs.Prelude.{ℕ, Bool, true, false, ◌&&◌}
-use Rattle.crdt_lib.specs.Parts.{is_committed}
+use Rattle.crdt_defs.specs.Parts.{is_committed}
 use Rattle.event_machine.specs.Machine.{State, plain, Label, Begin, Op, Local, New, Fail}
 
 -- the committed calls

@@ -1,6 +1,6 @@
 -- How the calls of one invocation lie in a state.
 use Rattle.std.specs.Prelude.{◌≡◌, ◌≢◌, ℕ, ◌<◌, ◌⊎◌, ◌↔◌, Some}
-use Rattle.crdt_lib.specs.Calls.{Call}
+use Rattle.crdt_defs.specs.Calls.{Call}
 use Rattle.event_machine.specs.Machine.{Running, Invocation, State}
 use Rattle.event_machine.specs.WellFormed.{At, In, Past, IsMarker}
 

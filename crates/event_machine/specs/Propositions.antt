@@ -1,6 +1,6 @@
 -- Truth of propositional formulas: values of the slots, `false` and `true`, and connectives. Other formulas aren't true,
 -- and none stands in a program over truth values.
-pub use Rattle.crdt_lib.specs.Truths.{truth_val, slot_value, is_true}
+pub use Rattle.crdt_defs.specs.Truths.{truth_val, slot_value, is_true}
 use Rattle.std.specs.Prelude.{Bool, true, false, ◌&&◌, ◌||◌, not, List, Option, slice_get}
 use Rattle.rp_value.specs.Values.{Val, Vals, no_val, also_val, false_val}
 use Rattle.rp_value.specs.Values as values

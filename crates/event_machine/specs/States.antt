@@ -2,7 +2,7 @@
 use Rattle.std.specs.Prelude.{ℕ, Bool, List, [], Option}
 use Rattle.rp_span.specs.declared.Span.{Span}
 use Rattle.rp_value.specs.Values.{Val}
-use Rattle.crdt_lib.specs.Calls.{Call}
+use Rattle.crdt_defs.specs.Calls.{Call}
 use Rattle.event_machine.specs.Code.{Code}
 
 pub data Standing : Type 0 where

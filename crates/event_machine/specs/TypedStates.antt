@@ -8,7 +8,7 @@ use Rattle.rp_lang.specs.Types.{agree, bool_ty, fields_of}
 use Rattle.rp_lang.specs.Typing.{Frame, type_of, have_types, is_typed}
 use Rattle.rp_lang.specs.Blocks.{is_slot}
 use Rattle.rp_lang.specs.Programs.{Proc, Prog}
-use Rattle.crdt_lib.specs.Calls.{Call}
+use Rattle.crdt_defs.specs.Calls.{Call}
 use Rattle.event_machine.specs.Code as left
 use Rattle.event_machine.specs.Code.{Code, CodeArms, no_code, also_code}
 use Rattle.event_machine.specs.Fitting.{fits, all_fit}

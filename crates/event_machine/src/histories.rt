@@ -3,12 +3,12 @@ ghost use Rattle.std.specs.Prelude.{◌≡◌, ◌≢◌, ℕ, ◌⊎◌, Bool, 
 ghost use Rattle.rp_value.specs.Values.{Val};
 ghost use Rattle.rp_lang.specs.Formulas.{Fo};
 ghost use Rattle.rp_lang.specs.Programs.{Prog};
-ghost use Rattle.crdt_lib.specs.Calls.{Call};
-ghost use Rattle.crdt_lib.specs.Histories.{call_is, before};
-ghost use Rattle.crdt_lib.specs.Longer.{IsLonger, Bounded};
-ghost use Rattle.crdt_lib.specs.Queries.{answer_in};
-ghost use Rattle.crdt_lib.specs.Snapshots.{bit, IsSnapshot};
-ghost use Rattle.crdt_lib.specs.Truths.{truth};
+ghost use Rattle.crdt_defs.specs.Calls.{Call};
+ghost use Rattle.crdt_defs.specs.Histories.{call_is, before};
+ghost use Rattle.crdt_defs.specs.Longer.{IsLonger, Bounded};
+ghost use Rattle.crdt_defs.specs.Queries.{answer_in};
+ghost use Rattle.crdt_defs.specs.Snapshots.{bit, IsSnapshot};
+ghost use Rattle.crdt_defs.specs.Truths.{truth};
 ghost use Rattle.event_machine.specs.States.{State, Label, New, Commit};
 ghost use Rattle.event_machine.specs.Machine.{at_snapshot, named, step};
 ghost use Rattle.event_machine.specs.Runs.{Leads};

@@ -7,7 +7,7 @@ ghost use Rattle.event_machine.specs.Runs.{outcome, Clean, ViolatedAt, RefusedAt
 ghost use Rattle.event_machine.specs.Checks.{Done, stmts_checks, paths};
 ghost use Rattle.event_machine.specs.Goals.{goals, path};
 ghost use Rattle.event_machine.specs.Tests.{is_false};
-ghost use Rattle.event_machine.specs.Samples.{span, program, b, claims_b, tautology, ten_ifs, eleven_ifs, branches, never};
+ghost use Rattle.event_machine.specs.rows.Samples.{span, program, b, claims_b, tautology, ten_ifs, eleven_ifs, branches, never};
 
 /// `assert b` violates at the Local behind the one label that invokes it with `false`.
 pub fn asserted_parameter()

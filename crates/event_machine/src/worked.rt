@@ -6,7 +6,7 @@ ghost use Rattle.event_machine.specs.States.{Invoke, Begin, Op, Local, New, Comm
 ghost use Rattle.event_machine.specs.States.{ToBegin, ToOp, ToLocal, ToNew, ToCommit, ToReturn, Invariant};
 ghost use Rattle.event_machine.specs.States.{NotRunning, WrongPoint, BadArgs, UnknownId, NotCommitted, NotClosed, StampUsed, StampLow, NotFresh, OutOfUniverse};
 ghost use Rattle.event_machine.specs.Runs.{outcome, Clean, ViolatedAt, RefusedAt};
-ghost use Rattle.event_machine.specs.Worked.{id, making, made, two_begun, both_done, failed, pickers, nobody, user, opaque, picked};
+ghost use Rattle.event_machine.specs.rows.Worked.{id, making, made, two_begun, both_done, failed, pickers, nobody, user, opaque, picked};
 
 /// A user is removed while a post of the user is made: each snapshot that has one of the two keeps the invariant, and
 /// the one that has both breaks it.

@@ -1,7 +1,7 @@
 -- What causal histories keep, said of numbers of calls: the axioms of one state.
 use Rattle.std.proofs.Common.{◌≡◌, ◌≢◌, ℕ, ◌<◌, Bool, true, false, List, length, nat_eq, nat_lt, refl, ap, sym, ◌∙◌, subst, inl, inr, true≢false, eqb-true, eq-eqb, ltb-true, arith}
-use Rattle.crdt_lib.specs.Calls.{Call}
-use Rattle.crdt_lib.specs.Histories.{call_is, before, same_tx}
+use Rattle.crdt_defs.specs.Calls.{Call}
+use Rattle.crdt_defs.specs.Histories.{call_is, before, same_tx}
 use Rattle.event_machine.specs.Machine.{Tx, is_in}
 use Rattle.event_machine.specs.WellFormed.{At, Past, IsMarker, IsCausal}
 use Rattle.event_machine.proofs.PlaceLemmas.{at-one, at-lt, at-exists, same-or, in-call_is, to-call_is}

@@ -12,8 +12,8 @@ use Rattle.rp_lang.specs.Programs.{Prog, Proc}
 use Rattle.rp_lang.specs.declared.op.OpDecl.{OpDecl}
 use Rattle.rp_lang.proofs.ProgramFacts.{Facts}
 use Rattle.rp_lang.proofs.TypeFacts.{each}
-use Rattle.crdt_lib.specs.Fitting as fitting
-use Rattle.crdt_lib.specs.Fitting.{fits, fields_fit, cons_to}
+use Rattle.crdt_defs.specs.Fitting as fitting
+use Rattle.crdt_defs.specs.Fitting.{fits, fields_fit, cons_to}
 use Rattle.event_machine.specs.WellFormed.{At}
 use Rattle.event_machine.proofs.PlaceLemmas.{at-exists}
 use Rattle.rp_logic.specs.Signatures.{fields_of, is_plain, is_int, is_str, is_con_of}

@@ -13,13 +13,13 @@ use Rattle.rp_lang.specs.declared.op.OpDecl.{OpDecl}
 use Rattle.rp_lang.specs.declared.op.PathStep.{PathStep}
 use Rattle.rp_lang.specs.declared.op.PathStep.TheVariants.{Field, Key}
 use Rattle.rp_lang.specs.declared.query.QueryKind.{QueryKind}
-use Rattle.crdt_lib.specs.declared.asked.Winner.{Winner}
-use Rattle.crdt_lib.specs.Calls.{Call}
-use Rattle.crdt_lib.specs.SameValues.{value_is}
-use Rattle.crdt_lib.specs.Doing.{is_key, keys_in, is_field, is_some_key, on_root, goes_to_field, goes_to_key}
-use Rattle.crdt_lib.specs.Meaning.{among, in_field, at_key}
-use Rattle.crdt_lib.specs.Queries.{question, answer_at, held_in, winner_in, ask}
-use Rattle.crdt_lib.proofs.GotLemmas.{met-call, met-op}
+use Rattle.crdt_defs.specs.declared.asked.Winner.{Winner}
+use Rattle.crdt_defs.specs.Calls.{Call}
+use Rattle.crdt_defs.specs.SameValues.{value_is}
+use Rattle.crdt_defs.specs.Doing.{is_key, keys_in, is_field, is_some_key, on_root, goes_to_field, goes_to_key}
+use Rattle.crdt_defs.specs.Meaning.{among, in_field, at_key}
+use Rattle.crdt_defs.specs.Queries.{question, answer_at, held_in, winner_in, ask}
+use Rattle.crdt_defs.proofs.GotLemmas.{met-call, met-op}
 use Rattle.event_machine.specs.WellFormed.{At}
 use Rattle.rp_logic.proofs.SortLaws.{no}
 use Rattle.crdt_enc.proofs.Starts.{Starts, starts-more}

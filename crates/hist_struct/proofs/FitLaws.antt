@@ -2,10 +2,10 @@
 use Rattle.std.proofs.Common.{◌≡◌, ℕ, zero, suc, ◌<◌, false, List, [], ◌∷◌, length, map, nat_eq, nat_lt, refl, ap, ap₂, sym, ◌∙◌, subst, ltb-true, slice_get}
 use Rattle.std.proofs.lemmas.Option.{none-some, same_Some}
 use Rattle.rp_lang.specs.Programs.{Prog}
-use Rattle.crdt_lib.specs.Calls.{Call}
-use Rattle.crdt_lib.specs.Histories.{meets, before, same_tx}
-use Rattle.crdt_lib.specs.Parts.{Info, Result, Unreturned, Returned, ReturnedWith}
-use Rattle.crdt_lib.specs.Truths.{ended}
+use Rattle.crdt_defs.specs.Calls.{Call}
+use Rattle.crdt_defs.specs.Histories.{meets, before, same_tx}
+use Rattle.crdt_defs.specs.Parts.{Info, Result, Unreturned, Returned, ReturnedWith}
+use Rattle.crdt_defs.specs.Truths.{ended}
 use Rattle.event_machine.specs.Machine.{Invocation, State, is_in, info, plain, result_of}
 use Rattle.event_machine.specs.WellFormed.{At}
 use Rattle.event_machine.proofs.PlaceLemmas.{at-lt, at-exists}

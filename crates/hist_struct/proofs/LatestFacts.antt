@@ -2,11 +2,11 @@
 use Rattle.std.proofs.Common.{◌≡◌, ℕ, ◌<◌, ◌≤◌, Bool, true, false, nat_lt, List, length, Option, Some, None, slice_get, refl, sym, ap, ◌∙◌, subst, inl, inr, ltb-true, true≢false, arith}
 use Rattle.rp_lang.specs.declared.op.OpDecl.{OpDecl}
 use Rattle.rp_lang.specs.declared.op.OpKind.TheVariants.{Assign}
-use Rattle.crdt_lib.specs.Calls.{Call}
-use Rattle.crdt_lib.specs.Doing.{is_of}
-use Rattle.crdt_lib.specs.Histories.{call_is}
-use Rattle.crdt_lib.specs.Meaning.{among, stamp_of, latest}
-use Rattle.crdt_lib.proofs.GotLemmas.{met-call}
+use Rattle.crdt_defs.specs.Calls.{Call}
+use Rattle.crdt_defs.specs.Doing.{is_of}
+use Rattle.crdt_defs.specs.Histories.{call_is}
+use Rattle.crdt_defs.specs.Meaning.{among, stamp_of, latest}
+use Rattle.crdt_defs.proofs.GotLemmas.{met-call}
 use Rattle.crdt_lib.proofs.NewestLemmas.{IsBest, newest_best, newest_is_latest}
 use Rattle.event_machine.specs.Machine.{Tx}
 use Rattle.event_machine.specs.WellFormed.{IsCausal}

@@ -4,8 +4,8 @@ use Rattle.std.specs.declared.option.Option.{Option}
 use Rattle.std.specs.declared.option.Option.TheVariants.{None, Some}
 use Rattle.std.proofs.lemmas.Option.{none-some}
 use Rattle.rp_lang.specs.Programs.{Prog}
-use Rattle.crdt_lib.specs.Calls.{Call}
-use Rattle.crdt_lib.specs.Histories.{call_is, before}
+use Rattle.crdt_defs.specs.Calls.{Call}
+use Rattle.crdt_defs.specs.Histories.{call_is, before}
 use Rattle.event_machine.specs.Machine.{Running, Invocation, Tx, State, listed, view_of}
 use Rattle.event_machine.specs.WellFormed.{At, In, Past, Committed, IsMarker, IsWellFormed}
 use Rattle.event_machine.proofs.PlaceLemmas.{at-push, at-one, at-lt, in-call_is, in-listed, any-at, or-left}

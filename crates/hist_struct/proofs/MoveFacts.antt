@@ -4,10 +4,10 @@ use Rattle.std.specs.declared.option.Option.{Option}
 use Rattle.std.specs.declared.option.Option.TheVariants.{None, Some}
 use Rattle.std.proofs.lemmas.Option.{none-some, same_Some}
 use Rattle.rp_value.specs.Values.{Val}
-use Rattle.crdt_lib.specs.Fitting.{is_id}
+use Rattle.crdt_defs.specs.Fitting.{is_id}
 use Rattle.rp_lang.specs.Programs.{Prog}
-use Rattle.crdt_lib.specs.Calls.{Call}
-use Rattle.crdt_lib.specs.Truths.{list_of, values}
+use Rattle.crdt_defs.specs.Calls.{Call}
+use Rattle.crdt_defs.specs.Truths.{list_of, values}
 use Rattle.event_machine.specs.Machine.{Invocation, Tx, State, Label, Invoke, Begin, Op, Local, New, Commit, Return, Fail, Check, named, at_invocation, started, is_known}
 use Rattle.event_machine.specs.WellFormed.{At, Committed, opened_by, Inside, IsWellFormed}
 use Rattle.event_machine.specs.Growth.{Grows}

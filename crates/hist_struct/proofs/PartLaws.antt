@@ -2,7 +2,7 @@
 use Rattle.std.proofs.Common.{◌≡◌, ◌<◌, ℕ, true, List, refl, sym, subst}
 use Rattle.rp_lang.specs.Programs.{Prog}
 use Rattle.rp_lang.specs.WellFormed.{is_well_formed}
-use Rattle.crdt_lib.specs.Parts.{Parts}
+use Rattle.crdt_defs.specs.Parts.{Parts}
 use Rattle.event_machine.specs.Machine.{plain}
 use Rattle.rp_logic.specs.Truth.{Meaning}
 use Rattle.crdt_enc.specs.Places.{At}

@@ -5,7 +5,7 @@ use Rattle.rp_value.specs.declared.tables.Ty.{Ty}
 use Rattle.rp_value.specs.declared.tables.Ty.TheVariants as ty
 use Rattle.rp_lang.specs.declared.op.OpDecl.{OpDecl}
 use Rattle.rp_lang.specs.Programs.{Prog, Proc}
-use Rattle.crdt_lib.specs.Fitting.{names_ids, fields_of}
+use Rattle.crdt_defs.specs.Fitting.{names_ids, fields_of}
 use Rattle.event_machine.specs.WellFormed.{At}
 use Rattle.rp_logic.specs.Terms.{Tm, Var, Sel}
 use Rattle.rp_logic.specs.Formulas.{Fm, Fms, All, no_fm, also_fm}

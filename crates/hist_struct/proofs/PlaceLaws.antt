@@ -10,10 +10,10 @@ use Rattle.rp_value.specs.Values as val
 use Rattle.rp_value.specs.Values.{Val, Vals, Atom, no_val, also_val}
 use Rattle.rp_lang.specs.declared.op.OpDecl.{OpDecl}
 use Rattle.rp_lang.specs.Programs.{Prog, Proc}
-use Rattle.crdt_lib.specs.Calls.{Call}
-use Rattle.crdt_lib.specs.SameValues.{same_val}
-use Rattle.crdt_lib.proofs.SameLemmas.{same_val_itself}
-use Rattle.crdt_lib.specs.Fitting.{fits, all_fit, fields_fit, fields_of, cons_to, atoms, atoms_in_fields, all_atoms, names_ids}
+use Rattle.crdt_defs.specs.Calls.{Call}
+use Rattle.crdt_defs.specs.SameValues.{same_val}
+use Rattle.crdt_defs.proofs.SameLemmas.{same_val_itself}
+use Rattle.crdt_defs.specs.Fitting.{fits, all_fit, fields_fit, fields_of, cons_to, atoms, atoms_in_fields, all_atoms, names_ids}
 use Rattle.event_machine.specs.Machine.{Standing, Running, Returned, Failed, Invocation, result_of, stands_in}
 use Rattle.event_machine.specs.WellFormed.{At}
 use Rattle.event_machine.specs.TypedStates.{result_fits}

@@ -6,12 +6,12 @@ use Rattle.rp_value.specs.Values.{Val}
 use Rattle.rp_lang.specs.declared.op.OpDecl.{OpDecl}
 use Rattle.rp_lang.specs.declared.op.OpKind.TheVariants.{Assign}
 use Rattle.rp_lang.specs.Programs.{Prog}
-use Rattle.crdt_lib.specs.Calls.{Call}
-use Rattle.crdt_lib.specs.Doing.{does, is_of, keys_in, same_kind}
-use Rattle.crdt_lib.specs.Histories.{call_is}
-use Rattle.crdt_lib.specs.Meaning.{among, latest}
-use Rattle.crdt_lib.specs.SameValues.{value_is}
-use Rattle.crdt_lib.proofs.GotLemmas.{met-call, met-op}
+use Rattle.crdt_defs.specs.Calls.{Call}
+use Rattle.crdt_defs.specs.Doing.{does, is_of, keys_in, same_kind}
+use Rattle.crdt_defs.specs.Histories.{call_is}
+use Rattle.crdt_defs.specs.Meaning.{among, latest}
+use Rattle.crdt_defs.specs.SameValues.{value_is}
+use Rattle.crdt_defs.proofs.GotLemmas.{met-call, met-op}
 use Rattle.event_machine.specs.Machine.{Tx}
 use Rattle.event_machine.specs.WellFormed.{IsCausal}
 use Rattle.rp_logic.specs.Elements.{Elem, Point}

@@ -11,12 +11,12 @@ use Rattle.rp_lang.specs.declared.op.PathStep.TheVariants.{Field, Key}
 use Rattle.rp_lang.specs.declared.query.QueryKind.TheVariants.{GetReg}
 use Rattle.rp_lang.specs.Programs.{Prog}
 use Rattle.rp_lang.proofs.ProgramFacts.{nothing}
-use Rattle.crdt_lib.specs.declared.asked.Answer.TheVariants.{Value}
-use Rattle.crdt_lib.specs.declared.asked.Winner.TheVariants.{Update, Delete}
-use Rattle.crdt_lib.specs.Calls.{Call}
-use Rattle.crdt_lib.specs.Fitting.{fits, all_fit}
-use Rattle.crdt_lib.specs.Meaning.{latest}
-use Rattle.crdt_lib.specs.Queries.{question, at_call, answer_at, ask}
+use Rattle.crdt_defs.specs.declared.asked.Answer.TheVariants.{Value}
+use Rattle.crdt_defs.specs.declared.asked.Winner.TheVariants.{Update, Delete}
+use Rattle.crdt_defs.specs.Calls.{Call}
+use Rattle.crdt_defs.specs.Fitting.{fits, all_fit}
+use Rattle.crdt_defs.specs.Meaning.{latest}
+use Rattle.crdt_defs.specs.Queries.{question, at_call, answer_at, ask}
 use Rattle.event_machine.proofs.AnswerFits.{register-is}
 use Rattle.rp_logic.specs.Elements.{Elem}
 use Rattle.rp_logic.specs.Truth.{Meaning}

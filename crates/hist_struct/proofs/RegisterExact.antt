@@ -8,8 +8,8 @@ use Rattle.rp_lang.specs.declared.op.PathStep.{PathStep}
 use Rattle.rp_lang.specs.declared.op.PathStep.TheVariants.{Field, Key}
 use Rattle.rp_lang.specs.declared.query.QueryDecl.{QueryDecl}
 use Rattle.rp_lang.specs.Programs.{Prog}
-use Rattle.crdt_lib.specs.Queries.{held_in, winner_in}
-use Rattle.crdt_lib.specs.Truths.{nth_con}
+use Rattle.crdt_defs.specs.Queries.{held_in, winner_in}
+use Rattle.crdt_defs.specs.Truths.{nth_con}
 use Rattle.event_machine.specs.WellFormed.{At}
 use Rattle.rp_logic.specs.Elements.{Elem, Made, no_elem, also_elem, same_elem}
 use Rattle.rp_logic.specs.Terms.{Tm, Var}

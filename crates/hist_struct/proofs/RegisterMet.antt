@@ -20,15 +20,15 @@ use Rattle.rp_lang.specs.declared.query.QueryKind.{QueryKind}
 use Rattle.rp_lang.specs.declared.query.QueryKind.TheVariants.{Contains, HasKey, GetReg, GetSum}
 use Rattle.rp_lang.proofs.ProgramFacts.{facts, op-is}
 use Rattle.rp_lang.proofs.TypeFacts.{each}
-use Rattle.crdt_lib.specs.Calls.{Call}
-use Rattle.crdt_lib.specs.Doing.{same_kind, is_of, does, keys_in, own_of, own_argument, on_root, goes_to_field, goes_to_key}
-use Rattle.crdt_lib.specs.Fitting.{fits, all_fit}
-use Rattle.crdt_lib.specs.Histories.{call_is}
-use Rattle.crdt_lib.specs.Meaning.{among, latest}
-use Rattle.crdt_lib.specs.Queries.{at_call, ask, answer_by}
-use Rattle.crdt_lib.specs.SameValues.{value_is}
-use Rattle.crdt_lib.specs.Truths.{or_false, nth_con, found_val, answer_val}
-use Rattle.crdt_lib.proofs.GotLemmas.{met-call}
+use Rattle.crdt_defs.specs.Calls.{Call}
+use Rattle.crdt_defs.specs.Doing.{same_kind, is_of, does, keys_in, own_of, own_argument, on_root, goes_to_field, goes_to_key}
+use Rattle.crdt_defs.specs.Fitting.{fits, all_fit}
+use Rattle.crdt_defs.specs.Histories.{call_is}
+use Rattle.crdt_defs.specs.Meaning.{among, latest}
+use Rattle.crdt_defs.specs.Queries.{at_call, ask, answer_by}
+use Rattle.crdt_defs.specs.SameValues.{value_is}
+use Rattle.crdt_defs.specs.Truths.{or_false, nth_con, found_val, answer_val}
+use Rattle.crdt_defs.proofs.GotLemmas.{met-call}
 use Rattle.event_machine.specs.Machine.{Tx}
 use Rattle.event_machine.specs.WellFormed.{At, IsCausal}
 use Rattle.event_machine.proofs.AnswerFits.{fit-at}

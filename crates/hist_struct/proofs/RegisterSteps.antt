@@ -6,8 +6,8 @@ use Rattle.rp_lang.specs.Types.{is_ordinary}
 use Rattle.rp_lang.specs.WellFormed.{is_well_formed}
 use Rattle.rp_lang.specs.Programs.{Prog}
 use Rattle.rp_lang.proofs.ProgramFacts.{facts}
-use Rattle.crdt_lib.specs.Fitting.{fits}
-use Rattle.crdt_lib.specs.Histories.{meets}
+use Rattle.crdt_defs.specs.Fitting.{fits}
+use Rattle.crdt_defs.specs.Histories.{meets}
 use Rattle.event_machine.specs.Machine.{State}
 use Rattle.event_machine.specs.Growth.{IsValid}
 use Rattle.event_machine.proofs.PlaceLemmas.{at-lt, at-exists, same-or}

@@ -3,7 +3,7 @@ use Rattle.std.proofs.Common.{◌≡◌, ℕ, zero, suc, ◌+◌, ◌-◌, List,
 use Rattle.std.proofs.lemmas.Option.{none-some, same_Some}
 use Rattle.rp_value.specs.declared.tables.AtomType.{AtomType}
 use Rattle.rp_lang.specs.Programs.{Prog, Proc}
-use Rattle.crdt_lib.specs.Fitting.{names_ids}
+use Rattle.crdt_defs.specs.Fitting.{names_ids}
 use Rattle.event_machine.specs.WellFormed.{At}
 use Rattle.rp_logic.specs.Terms.{Tm, Var}
 use Rattle.rp_logic.specs.Formulas.{Fm, Fms, All, Ex}

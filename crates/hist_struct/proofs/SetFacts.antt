@@ -1,8 +1,8 @@
 -- Sets of calls that are closed: committed calls, the past of a marker, views; and what stays of them in a later history.
 use Rattle.std.proofs.Common.{◌≡◌, ◌≢◌, ℕ, Bool, true, false, ◌&&◌, List, ap, sym, ◌∙◌, subst, inl, inr, true≢false, arith}
-use Rattle.crdt_lib.specs.Calls.{Call}
-use Rattle.crdt_lib.specs.Histories.{before, same_tx}
-use Rattle.crdt_lib.specs.Snapshots.{bit, IsSnapshot}
+use Rattle.crdt_defs.specs.Calls.{Call}
+use Rattle.crdt_defs.specs.Histories.{before, same_tx}
+use Rattle.crdt_defs.specs.Snapshots.{bit, IsSnapshot}
 use Rattle.event_machine.specs.Machine.{Tx, State}
 use Rattle.event_machine.specs.WellFormed.{At, In, Past, Committed, commits_of, IsMarker, IsCausal}
 use Rattle.event_machine.proofs.PlaceLemmas.{at-one, at-lt, at-exists, same-or, in-call_is, to-call_is}

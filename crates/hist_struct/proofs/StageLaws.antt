@@ -9,9 +9,9 @@ use Rattle.rp_lang.specs.Typing.{is_get, query_args, value_asked}
 use Rattle.rp_lang.specs.WellFormed.{is_well_formed}
 use Rattle.rp_lang.specs.Programs.{Proc, Prog}
 use Rattle.rp_lang.proofs.ProgramFacts.{Facts, facts}
-use Rattle.crdt_lib.specs.Calls.{Call}
-use Rattle.crdt_lib.specs.Parts.{Info}
-use Rattle.crdt_lib.specs.Fitting.{fits, all_fit}
+use Rattle.crdt_defs.specs.Calls.{Call}
+use Rattle.crdt_defs.specs.Parts.{Info}
+use Rattle.crdt_defs.specs.Fitting.{fits, all_fit}
 use Rattle.event_machine.specs.Code.{Return}
 use Rattle.event_machine.specs.Machine.{Standing, Running, Returned, Failed, Invocation, State, info, plain, reading_set, result_of}
 use Rattle.event_machine.specs.WellFormed.{At}

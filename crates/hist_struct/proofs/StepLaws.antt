@@ -3,9 +3,9 @@ use Rattle.std.proofs.Common.{◌≡◌, ℕ, suc, ◌<◌, Bool, true, false, L
 use borrow.Author.Tests.{eqb-false}
 use Rattle.std.specs.declared.option.Option.TheVariants.{Some}
 use Rattle.rp_value.specs.Values.{Val}
-use Rattle.crdt_lib.specs.Calls.{Call}
-use Rattle.crdt_lib.specs.Histories.{before, same_tx}
-use Rattle.crdt_lib.specs.Fitting.{all_fit}
+use Rattle.crdt_defs.specs.Calls.{Call}
+use Rattle.crdt_defs.specs.Histories.{before, same_tx}
+use Rattle.crdt_defs.specs.Fitting.{all_fit}
 use Rattle.event_machine.specs.WellFormed.{At, commits_of, IsMarker, IsCausal}
 use Rattle.event_machine.proofs.PlaceLemmas.{at-lt, at-exists}
 use Rattle.event_machine.proofs.ViewLemmas.{Closed}

@@ -2,7 +2,7 @@
 use Rattle.std.proofs.Common.{◌≡◌, ℕ, ◌≤◌, Bool, true, List, refl, ap, sym, ◌∙◌, inl, inr, true≢false, arith}
 use Rattle.std.proofs.lemmas.Option.{none-some}
 use Rattle.rp_lang.specs.Programs.{Prog}
-use Rattle.crdt_lib.specs.Snapshots.{IsSnapshot}
+use Rattle.crdt_defs.specs.Snapshots.{IsSnapshot}
 use Rattle.event_machine.specs.Machine.{Invocation, State, Label, refusal, effect, step, empty}
 use Rattle.event_machine.proofs.RunLemmas.{running-here, accepted}
 use Rattle.event_machine.specs.Runs.{Leads}

@@ -3,7 +3,7 @@ use Rattle.std.proofs.Common.{◌≡◌, ℕ, zero, suc, ◌+◌, ◌*◌, ◌<�
 use Rattle.std.specs.declared.option.Option.TheVariants.{Some}
 use Rattle.std.proofs.lemmas.List.Sums.{length-filter}
 use Rattle.rp_value.specs.declared.tables.AtomType.{AtomType}
-use Rattle.crdt_lib.specs.Fitting.{names_ids}
+use Rattle.crdt_defs.specs.Fitting.{names_ids}
 use Rattle.rp_logic.specs.Signatures.{Signature, is_int, is_str}
 use Rattle.rp_logic.specs.Elements.{Elem, Point, Whole, Text, Made}
 use Rattle.rp_logic.specs.Structures.{Relation, is_related}

@@ -14,17 +14,17 @@ use Rattle.rp_lang.specs.Paths.{root_crdt, query_fits, is_query}
 use Rattle.rp_lang.specs.Typing.{is_get}
 use Rattle.rp_lang.specs.Programs.{Prog}
 use Rattle.rp_lang.proofs.ProgramFacts.{Facts, nothing}
-use Rattle.crdt_lib.specs.declared.asked.Answer.{Answer}
-use Rattle.crdt_lib.specs.declared.asked.Answer.TheVariants.{Value}
-use Rattle.crdt_lib.specs.declared.asked.Found.TheVariants.{Sum, Nothing}
-use Rattle.crdt_lib.specs.Calls.{Call}
-use Rattle.crdt_lib.specs.Counting.{sum_below}
-use Rattle.crdt_lib.specs.Doing.{is_of, on_root, amount}
-use Rattle.crdt_lib.specs.Histories.{call_is}
-use Rattle.crdt_lib.specs.Meaning.{among, is_older, latest, counter_sum}
-use Rattle.crdt_lib.specs.Queries.{at_call, ask, answer_by}
-use Rattle.crdt_lib.specs.Truths.{found_val, answer_val}
-use Rattle.crdt_lib.specs.Fitting.{fits, all_fit}
+use Rattle.crdt_defs.specs.declared.asked.Answer.{Answer}
+use Rattle.crdt_defs.specs.declared.asked.Answer.TheVariants.{Value}
+use Rattle.crdt_defs.specs.declared.asked.Found.TheVariants.{Sum, Nothing}
+use Rattle.crdt_defs.specs.Calls.{Call}
+use Rattle.crdt_defs.specs.Counting.{sum_below}
+use Rattle.crdt_defs.specs.Doing.{is_of, on_root, amount}
+use Rattle.crdt_defs.specs.Histories.{call_is}
+use Rattle.crdt_defs.specs.Meaning.{among, is_older, latest, counter_sum}
+use Rattle.crdt_defs.specs.Queries.{at_call, ask, answer_by}
+use Rattle.crdt_defs.specs.Truths.{found_val, answer_val}
+use Rattle.crdt_defs.specs.Fitting.{fits, all_fit}
 use Rattle.crdt_lib.proofs.NewestLemmas.{first_none}
 use Rattle.event_machine.specs.WellFormed.{At}
 use Rattle.event_machine.proofs.ProgramFits.{each}

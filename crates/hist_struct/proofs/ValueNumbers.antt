@@ -6,7 +6,7 @@ use Rattle.std.proofs.lemmas.Option.{none-some, same_Some}
 use Rattle.rp_lang.specs.declared.query.QueryDecl.{QueryDecl}
 use Rattle.rp_lang.specs.Typing.{is_get}
 use Rattle.rp_lang.specs.Programs.{Prog}
-use Rattle.crdt_lib.specs.Calls.{Call}
+use Rattle.crdt_defs.specs.Calls.{Call}
 use Rattle.event_machine.specs.WellFormed.{At}
 use Rattle.rp_logic.specs.Structures.{Fun}
 use Rattle.rp_symbols.specs.Numbers.{ids, gets, view_place, val_fn, old_rel, snapshot_rel, part_rel, seen_rel, read_rel}

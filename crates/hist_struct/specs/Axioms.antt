@@ -2,7 +2,7 @@
 use Rattle.std.specs.Prelude.{ℕ, zero, suc, true, false, List, [], ◌∷◌, ◌++◌, length, slice_get, if◌then◌else◌}
 use Rattle.rp_value.specs.declared.tables.Ty.{Ty}
 use Rattle.rp_value.specs.declared.tables.Ty.TheVariants as ty
-use Rattle.crdt_lib.specs.Fitting.{names_ids, fields_of}
+use Rattle.crdt_defs.specs.Fitting.{names_ids, fields_of}
 use Rattle.rp_lang.specs.declared.op.OpDecl.{OpDecl}
 use Rattle.rp_value.specs.declared.tables.AtomType.{AtomType}
 use Rattle.rp_lang.specs.Programs.{Prog, Proc}

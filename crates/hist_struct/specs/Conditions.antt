@@ -10,7 +10,7 @@ use Rattle.rp_value.specs.declared.tables.Ty.{Ty}
 use Rattle.rp_value.specs.declared.tables.Ty.TheVariants as ty
 use Rattle.rp_value.specs.declared.tables.DataDecl.{DataDecl}
 use Rattle.rp_lang.specs.declared.op.OpDecl.{OpDecl}
-use Rattle.crdt_lib.specs.Fitting.{names_ids, fields_of}
+use Rattle.crdt_defs.specs.Fitting.{names_ids, fields_of}
 use Rattle.event_machine.specs.WellFormed.{At}
 use Rattle.rp_symbols.specs.Signatures.{result_list}
 use Rattle.rp_symbols.specs.Numbers.{call_sort, inv_sort, atom_sort, before_rel, stamp_rel, same_rel, op_fn, origin_fn, info_fn, op_con, info_con, unreturned_con, outcome_con}

@@ -8,12 +8,12 @@ use Rattle.rp_lang.specs.declared.query.QueryKind.{QueryKind}
 use Rattle.rp_lang.specs.declared.query.QueryKind.TheVariants.{GetSum}
 use Rattle.rp_lang.specs.Typing.{is_get}
 use Rattle.rp_lang.specs.Programs.{Prog}
-use Rattle.crdt_lib.specs.declared.asked.Found.{Found}
-use Rattle.crdt_lib.specs.declared.asked.Found.TheVariants.{Sum, Nothing}
-use Rattle.crdt_lib.specs.Calls.{Call}
-use Rattle.crdt_lib.specs.Fitting.{all_fit}
-use Rattle.crdt_lib.specs.Queries.{answer_in}
-use Rattle.crdt_lib.specs.Truths.{found_val, answer_val}
+use Rattle.crdt_defs.specs.declared.asked.Found.{Found}
+use Rattle.crdt_defs.specs.declared.asked.Found.TheVariants.{Sum, Nothing}
+use Rattle.crdt_defs.specs.Calls.{Call}
+use Rattle.crdt_defs.specs.Fitting.{all_fit}
+use Rattle.crdt_defs.specs.Queries.{answer_in}
+use Rattle.crdt_defs.specs.Truths.{found_val, answer_val}
 use Rattle.rp_logic.specs.Elements.{Elem, Elems}
 use Rattle.rp_logic.specs.Structures.{Fun, Table}
 use Rattle.crdt_enc.specs.Elements.{elem_of, elems_of}

@@ -12,10 +12,10 @@ use Rattle.rp_lang.specs.declared.query.QueryDecl.{QueryDecl}
 use Rattle.rp_lang.specs.declared.query.QueryKind.{QueryKind}
 use Rattle.rp_lang.specs.declared.query.QueryKind.TheVariants.{GetReg}
 use Rattle.rp_lang.specs.Programs.{Prog}
-use Rattle.crdt_lib.specs.declared.asked.Winner.{Winner}
-use Rattle.crdt_lib.specs.declared.asked.Winner.TheVariants.{Update, Delete}
-use Rattle.crdt_lib.specs.Queries.{held_in, winner_in}
-use Rattle.crdt_lib.specs.Truths.{nth_con}
+use Rattle.crdt_defs.specs.declared.asked.Winner.{Winner}
+use Rattle.crdt_defs.specs.declared.asked.Winner.TheVariants.{Update, Delete}
+use Rattle.crdt_defs.specs.Queries.{held_in, winner_in}
+use Rattle.crdt_defs.specs.Truths.{nth_con}
 use Rattle.event_machine.specs.WellFormed.{At}
 use Rattle.rp_logic.specs.Elements.{Elem, Made, no_elem, also_elem}
 use Rattle.rp_logic.specs.Terms.{Tm, Var, Fn, Con, no_tm, also_tm}

@@ -2,8 +2,8 @@
 use Rattle.std.specs.Prelude.{ℕ, ◌<◌, Bool, List, Option}
 use Rattle.rp_value.specs.Values.{Val}
 use Rattle.rp_lang.specs.Programs.{Prog}
-use Rattle.crdt_lib.specs.Snapshots.{IsSnapshot}
-use Rattle.crdt_lib.specs.Truths.{Reading}
+use Rattle.crdt_defs.specs.Snapshots.{IsSnapshot}
+use Rattle.crdt_defs.specs.Truths.{Reading}
 use Rattle.event_machine.specs.Machine.{State, plain}
 use Rattle.event_machine.specs.WellFormed.{commits_of}
 use Rattle.rp_symbols.specs.Numbers.{old_rel, new_rel, was_rel, there_rel, old_result_fn, new_result_fn, part_rel, seen_rel, read_rel, snapshot_rel}

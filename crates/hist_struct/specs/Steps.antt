@@ -1,9 +1,9 @@
 -- A step of one invocation, and the sets of calls that formulas about it speak of.
 use Rattle.std.specs.Prelude.{◌≡◌, ℕ, ◌-◌, Bool, false, ◌&&◌, ◌||◌, nat_eq, nat_lt, List, [], length, Option, Some, None, slice_get, ◌⊎◌}
 use Rattle.rp_lang.specs.Programs.{Prog}
-use Rattle.crdt_lib.specs.Calls.{Call}
-use Rattle.crdt_lib.specs.Histories.{call_is, before}
-use Rattle.crdt_lib.specs.Snapshots.{bit, IsSnapshot}
+use Rattle.crdt_defs.specs.Calls.{Call}
+use Rattle.crdt_defs.specs.Histories.{call_is, before}
+use Rattle.crdt_defs.specs.Snapshots.{bit, IsSnapshot}
 use Rattle.event_machine.specs.Machine.{Running, Invocation, State, Label, empty, listed, view_of, named, step}
 use Rattle.event_machine.specs.Runs.{Leads}
 use Rattle.event_machine.specs.WellFormed.{At, commits_of}

@@ -4,11 +4,11 @@ use Rattle.std.specs.List.{list_any}
 use Rattle.rp_value.specs.declared.tables.AtomType.{AtomType}
 use Rattle.rp_value.specs.Values.{Val, Atom}
 use Rattle.rp_lang.specs.Programs.{Prog}
-use Rattle.crdt_lib.specs.Calls.{Call}
-use Rattle.crdt_lib.specs.Histories.{before, same_tx}
-use Rattle.crdt_lib.specs.Parts.{Result, Unreturned, Returned, ReturnedWith}
-use Rattle.crdt_lib.specs.SameValues.{same_val}
-use Rattle.crdt_lib.specs.Fitting.{all_atoms}
+use Rattle.crdt_defs.specs.Calls.{Call}
+use Rattle.crdt_defs.specs.Histories.{before, same_tx}
+use Rattle.crdt_defs.specs.Parts.{Result, Unreturned, Returned, ReturnedWith}
+use Rattle.crdt_defs.specs.SameValues.{same_val}
+use Rattle.crdt_defs.specs.Fitting.{all_atoms}
 use Rattle.event_machine.specs.Machine.{Invocation, result_of, stands_in}
 use Rattle.rp_logic.specs.declared.sort.Sort.{Sort}
 use Rattle.rp_logic.specs.declared.sort.Sort.TheVariants as so

@@ -10,11 +10,11 @@ use Rattle.rp_value.specs.Values.{Val, Vals}
 use Rattle.rp_lang.specs.Exprs.{Ex, Exs}
 use Rattle.rp_lang.specs.Formulas.{Fo}
 use Rattle.rp_lang.specs.Programs.{Proc, Prog}
-use Rattle.crdt_lib.specs.Calls.{Call}
-use Rattle.crdt_lib.specs.Histories.{meets, before}
-use Rattle.crdt_lib.specs.SameValues.{same_val}
-use Rattle.crdt_lib.specs.Truths.{truth_val, list_of, value, values, truth}
-use Rattle.crdt_lib.proofs.SameLemmas.{same_val_is}
+use Rattle.crdt_defs.specs.Calls.{Call}
+use Rattle.crdt_defs.specs.Histories.{meets, before}
+use Rattle.crdt_defs.specs.SameValues.{same_val}
+use Rattle.crdt_defs.specs.Truths.{truth_val, list_of, value, values, truth}
+use Rattle.crdt_defs.proofs.SameLemmas.{same_val_is}
 use Rattle.event_machine.specs.Code.{Code}
 use Rattle.event_machine.specs.Fitting.{fits, is_id}
 use Rattle.event_machine.specs.Machine.{Invocation, Tx, State, first_slots, is_in, listed, calls_of, own_calls, reading_set, at_invocation, is_generated, begun, operated, committed, filled}
@@ -28,7 +28,7 @@ use Rattle.event_machine.proofs.KnownLemmas.{changed}
 use Rattle.event_machine.proofs.PrivateLemmas.{placed, private-set, of-open, private-local, private-new}
 use Rattle.one_invocation.specs.Trails.{Done, HasPut, HasDecided, HasMade, HasOperated, HasTaken, HasTakenArm, HasBegun, HasEnded, slots_after, reads, open_tx, has_operated, untold, own}
 use Rattle.one_invocation.specs.CameAlong.{Start, start_of, reads_at, Follows, CameAlong}
-use Rattle.crdt_lib.specs.Longer.{IsLonger}
+use Rattle.crdt_defs.specs.Longer.{IsLonger}
 use Rattle.one_invocation.proofs.FollowsLonger.{IsPlain, reads-in, reads-same, values-here, follows-more}
 use Rattle.one_invocation.proofs.CameGrows.{state-plain}
 

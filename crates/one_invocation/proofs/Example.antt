@@ -7,11 +7,11 @@ use Rattle.std.proofs.lemmas.List.Elements.{All-from_recursion}
 use Rattle.rp_value.specs.Values.{Atom, no_val, also_val}
 use Rattle.rp_value.specs.ValueView.{vals_of}
 use Rattle.rp_lang.specs.Programs.{Proc, Prog}
-use Rattle.crdt_lib.specs.Calls.{Call}
-use Rattle.crdt_lib.specs.Counting.{all_below}
-use Rattle.crdt_lib.specs.Histories.{call_is}
-use Rattle.crdt_lib.specs.Snapshots.{bit}
-use Rattle.crdt_lib.specs.Truths.{Operation, operation_of, same_meant, truth}
+use Rattle.crdt_defs.specs.Calls.{Call}
+use Rattle.crdt_defs.specs.Counting.{all_below}
+use Rattle.crdt_defs.specs.Histories.{call_is}
+use Rattle.crdt_defs.specs.Snapshots.{bit}
+use Rattle.crdt_defs.specs.Truths.{Operation, operation_of, same_meant, truth}
 use Rattle.event_machine.specs.Code.{Code}
 use Rattle.event_machine.specs.Machine.{Invocation, Tx, State, Invoke, Commit, Return, is_in, own_calls, at_snapshot, committed, refusal, effect}
 use Rattle.event_machine.specs.WellFormed.{At, opened_by, commits_of}

@@ -8,17 +8,17 @@ use Rattle.rp_value.specs.declared.tables.Ty.TheVariants as ty
 use Rattle.rp_value.specs.Values.{Val, Vals, no_val, also_val}
 use Rattle.rp_lang.specs.Exprs.{Ex, Exs}
 use Rattle.rp_lang.specs.Formulas.{Fo}
-use Rattle.crdt_lib.specs.Calls.{Call}
-use Rattle.crdt_lib.specs.Histories.{meets, call_is, before}
-use Rattle.crdt_lib.specs.Snapshots.{bit}
-use Rattle.crdt_lib.specs.Truths.{truth_val, list_of, value, values, truth}
+use Rattle.crdt_defs.specs.Calls.{Call}
+use Rattle.crdt_defs.specs.Histories.{meets, call_is, before}
+use Rattle.crdt_defs.specs.Snapshots.{bit}
+use Rattle.crdt_defs.specs.Truths.{truth_val, list_of, value, values, truth}
 use Rattle.event_machine.specs.Machine.{proc_reading, filled}
 use Rattle.event_machine.specs.WellFormed.{At, Past}
 use Rattle.event_machine.proofs.PlaceLemmas.{at-set, at-lt, in-call_is, or-cases}
 use Rattle.one_invocation.specs.Trails.{Done, HasPut, HasDecided, HasMade, HasOperated, HasTaken, HasTakenArm, HasBegun, HasEnded, slots_after, reads}
 use Rattle.one_invocation.specs.CameAlong.{Start, reads_at, IsOwn, Brings, Follows}
-use Rattle.crdt_lib.specs.Longer.{IsLonger, Bounded}
-use Rattle.crdt_lib.proofs.QueryLonger.{call-same}
+use Rattle.crdt_defs.specs.Longer.{IsLonger, Bounded}
+use Rattle.crdt_defs.proofs.QueryLonger.{call-same}
 use Rattle.event_machine.proofs.DataValues.{fits-old}
 use Rattle.event_machine.proofs.TruthLonger.{Old, AllOld, IsExtended, value-old, value-same, values-same, truth-same}
 

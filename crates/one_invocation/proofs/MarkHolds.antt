@@ -4,8 +4,8 @@ use Rattle.std.specs.declared.option.Option.{Option}
 use Rattle.std.specs.declared.option.Option.TheVariants.{None, Some}
 use Rattle.std.proofs.lemmas.Option.{none-some, same_Some}
 use Rattle.rp_lang.specs.Programs.{Prog}
-use Rattle.crdt_lib.specs.Calls.{Call}
-use Rattle.crdt_lib.specs.Histories.{before}
+use Rattle.crdt_defs.specs.Calls.{Call}
+use Rattle.crdt_defs.specs.Histories.{before}
 use Rattle.event_machine.specs.Machine.{State}
 use Rattle.event_machine.specs.Growth.{IsValid}
 use Rattle.event_machine.specs.LocalSafety.{HoldsAt, HoldsAll}

@@ -7,7 +7,7 @@ use Rattle.std.proofs.lemmas.Option.{none-some, same_Some}
 use Rattle.std.proofs.lemmas.List.Elements.{All-head}
 use Rattle.rp_value.specs.Values.{Val}
 use Rattle.rp_lang.specs.Programs.{Proc, Prog}
-use Rattle.crdt_lib.specs.Truths.{value, truth, is_built}
+use Rattle.crdt_defs.specs.Truths.{value, truth, is_built}
 use Rattle.event_machine.specs.Code as left
 use Rattle.event_machine.specs.Code.{Code, CodeArms, no_code, also_code}
 use Rattle.event_machine.specs.Machine.{Failed, Invocation, State, Label, Invoke, Begin, Op, Local, New, Commit, Return, Fail, Check, Assertion, Why, Answer, Moved, Violated, at_invocation, named, on_invocation, with_invocation, with_fields, begins, operates, into_arm, local, made, commits, stands, returns, effect, unless_refused}

@@ -5,7 +5,7 @@ use Rattle.std.specs.declared.option.Option.TheVariants.{Some}
 use Rattle.std.proofs.lemmas.Option.{none-some, same_Some}
 use Rattle.std.proofs.lemmas.Bool.{and_parts}
 use Rattle.rp_lang.specs.Programs.{Proc, Prog}
-use Rattle.crdt_lib.specs.Calls.{Call}
+use Rattle.crdt_defs.specs.Calls.{Call}
 use Rattle.event_machine.specs.Machine.{Invocation, Tx, State, is_in, own_calls}
 use Rattle.event_machine.specs.WellFormed.{At, IsCausal}
 use Rattle.event_machine.specs.Growth.{IsValid}

@@ -7,8 +7,8 @@ use Rattle.std.specs.declared.option.Option.TheVariants.{Some}
 use Rattle.std.proofs.lemmas.Option.{none-some, same_Some}
 use Rattle.std.proofs.lemmas.Bool.{and_parts}
 use Rattle.rp_lang.specs.Programs.{Proc, Prog}
-use Rattle.crdt_lib.specs.Calls.{Call}
-use Rattle.crdt_lib.specs.Histories.{call_is, before}
+use Rattle.crdt_defs.specs.Calls.{Call}
+use Rattle.crdt_defs.specs.Histories.{call_is, before}
 use Rattle.event_machine.specs.Code.{Code}
 use Rattle.event_machine.specs.Machine.{Invocation, Tx, State, is_in, listed, own_calls, committed}
 use Rattle.event_machine.specs.WellFormed.{At, Committed, opened_by, IsCausal}

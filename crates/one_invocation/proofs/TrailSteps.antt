@@ -9,9 +9,9 @@ use Rattle.rp_value.specs.Values as val
 use Rattle.rp_value.specs.Values.{Val, Vals}
 use Rattle.rp_lang.specs.Exprs.{Ex, Exs}
 use Rattle.rp_lang.specs.Programs.{Proc, Prog}
-use Rattle.crdt_lib.specs.Calls.{Call}
-use Rattle.crdt_lib.specs.Truths.{truth_val, list_of, value, values, truth, is_built}
-use Rattle.crdt_lib.proofs.SameLemmas.{same_val_itself}
+use Rattle.crdt_defs.specs.Calls.{Call}
+use Rattle.crdt_defs.specs.Truths.{truth_val, list_of, value, values, truth, is_built}
+use Rattle.crdt_defs.proofs.SameLemmas.{same_val_itself}
 use Rattle.event_machine.specs.Code as left
 use Rattle.event_machine.specs.Code.{Code, CodeArms, no_code, also_code, proc_code}
 use Rattle.event_machine.specs.Machine.{Running, Returned, Failed, Invocation, State, Label, Invoke, Begin, Op, Local, New, Commit, Return, Fail, Check, Assertion, Why, Answer, Moved, Violated, is_in, calls_of, reading_set, at_invocation, named, with_invocation, with_fields, filled, begun, operated, into_arm, local, committed, commits, returns, effect, refusal, unless_refused, step}

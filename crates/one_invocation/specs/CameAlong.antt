@@ -4,9 +4,9 @@ use Rattle.std.specs.List.{list_any}
 use Rattle.rp_value.specs.declared.tables.Ty.TheVariants.{Atom}
 use Rattle.rp_value.specs.Values.{Val, Con}
 use Rattle.rp_lang.specs.Programs.{Proc, Prog}
-use Rattle.crdt_lib.specs.Calls.{Call}
-use Rattle.crdt_lib.specs.SameValues.{same_val}
-use Rattle.crdt_lib.specs.Truths.{Reading, list_of, value, values, truth}
+use Rattle.crdt_defs.specs.Calls.{Call}
+use Rattle.crdt_defs.specs.SameValues.{same_val}
+use Rattle.crdt_defs.specs.Truths.{Reading, list_of, value, values, truth}
 use Rattle.event_machine.specs.Code.{proc_code}
 use Rattle.event_machine.specs.Fitting.{fits}
 use Rattle.event_machine.specs.Machine.{Running, Invocation, State, is_in, reading_set, proc_reading, first_slots}

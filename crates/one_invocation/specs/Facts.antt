@@ -1,7 +1,7 @@
 -- What follows from a trail's conditions: how the calls of the invocation lie in the state.
 use Rattle.std.specs.Prelude.{◌≡◌, ℕ, ◌⊎◌, true, ◌&&◌, ◌||◌, nat_eq, nat_le, List, [], ◌∷◌, ◌++◌, length, reverse, Option, Some, None}
-use Rattle.crdt_lib.specs.Calls.{Call}
-use Rattle.crdt_lib.specs.Histories.{call_is, before}
+use Rattle.crdt_defs.specs.Calls.{Call}
+use Rattle.crdt_defs.specs.Histories.{call_is, before}
 use Rattle.event_machine.specs.Machine.{State, is_in, listed, own_calls}
 use Rattle.event_machine.specs.WellFormed.{At}
 use Rattle.one_invocation.specs.Trails.{Done, HasOperated, HasBegun, last_mark, own, reads}

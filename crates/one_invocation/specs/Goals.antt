@@ -7,9 +7,9 @@ use Rattle.rp_lang.specs.Formulas.{Fo}
 use Rattle.rp_lang.specs.Programs.{Proc, Inv, Prog}
 use Rattle.rp_lang.specs.declared.goal.GoalName.{GoalName}
 use Rattle.rp_lang.specs.declared.goal.GoalKind.TheVariants as kind
-use Rattle.crdt_lib.specs.Histories.{before}
-use Rattle.crdt_lib.specs.Snapshots.{IsSnapshot}
-use Rattle.crdt_lib.specs.Truths.{truth}
+use Rattle.crdt_defs.specs.Histories.{before}
+use Rattle.crdt_defs.specs.Snapshots.{IsSnapshot}
+use Rattle.crdt_defs.specs.Truths.{truth}
 use Rattle.event_machine.specs.Code as left
 use Rattle.event_machine.specs.Code.{Code, CodeArms, no_code, also_code, proc_code}
 use Rattle.event_machine.specs.Machine as machine

@@ -3,9 +3,9 @@ use Rattle.std.specs.Prelude.{ℕ, Bool, true, false, ◌||◌, nat_eq, if◌the
 use Rattle.rp_value.specs.Values.{Val, Vals}
 use Rattle.rp_lang.specs.Exprs.{Ex, Exs}
 use Rattle.rp_lang.specs.Formulas.{Fo}
-use Rattle.crdt_lib.specs.Calls.{Call}
-use Rattle.crdt_lib.specs.Histories.{before}
-use Rattle.crdt_lib.specs.Truths.{truth_val}
+use Rattle.crdt_defs.specs.Calls.{Call}
+use Rattle.crdt_defs.specs.Histories.{before}
+use Rattle.crdt_defs.specs.Truths.{truth_val}
 use Rattle.event_machine.specs.Machine.{filled}
 
 -- A statement of a path, and of a choice or a match where the path goes on. An assertion leaves no trace.

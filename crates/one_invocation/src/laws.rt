@@ -3,7 +3,7 @@ ghost use Rattle.std.specs.Prelude.{◌≡◌, ℕ, ◌⊎◌, ◌||◌, ◌↔�
 ghost use Rattle.rp_value.specs.Values.{Val};
 ghost use Rattle.rp_lang.specs.Programs.{Proc, Prog};
 ghost use Rattle.rp_lang.specs.WellFormed.{is_well_formed};
-ghost use Rattle.crdt_lib.specs.Calls.{Call};
+ghost use Rattle.crdt_defs.specs.Calls.{Call};
 ghost use Rattle.event_machine.specs.Code.{Code, proc_code};
 ghost use Rattle.event_machine.specs.States.{Invocation, State, Label, Invoke};
 ghost use Rattle.event_machine.specs.Machine.{own_calls, named, committed, step};

@@ -5,7 +5,7 @@ ghost use Rattle.rp_lang.specs.Formulas.{Holds};
 ghost use Rattle.rp_lang.specs.rows.Samples.{span, one, refs, removes_users, keeps_users};
 ghost use Rattle.event_machine.specs.Runs.{IsSafe};
 ghost use Rattle.event_machine.specs.LocalSafety.{StartsSafe};
-ghost use Rattle.event_machine.specs.Samples.{program, branches, never, ten_ifs};
+ghost use Rattle.event_machine.specs.rows.Samples.{program, branches, never, ten_ifs};
 ghost use Rattle.one_invocation.specs.Trails.{Operate, Take, Begin};
 ghost use Rattle.one_invocation.specs.Goals.{ToCommit, goals, name_of, IsMet};
 ghost use Rattle.one_invocation.specs.rows.Programs.{only_adds, claiming_pickers};

@@ -17,7 +17,7 @@ use Rattle.rp_grammar.specs.Exprs as exprs
 use Rattle.rp_grammar.specs.Stmts as stmts
 use Rattle.rp_grammar.specs.Decls as decls
 use Rattle.rp_grammar.specs.Decls.{Program}
-use Rattle.rp_grammar.specs.Rows.{Reads, span, Tautology, ParenthesesOfAnOperand, ParenthesesOfANode, NestingsOfASum, TwoVariables, QuantifierInAChain, ElseIf, ReplicatedTypes, Datatypes, MatchesAndAccesses, WordsWithArguments, Statements, DeclaredTypes, Strings, TautologyTokens, ReplicatedTypesByName, Comparisons, WordsAlone, ShortStatements, tautology_text, tautology_tree, TautologyWithinTwo, TautologyPastNone, NoProgram}
+use Rattle.rp_grammar.specs.rows.Rows.{Reads, span, Tautology, ParenthesesOfAnOperand, ParenthesesOfANode, NestingsOfASum, TwoVariables, QuantifierInAChain, ElseIf, ReplicatedTypes, Datatypes, MatchesAndAccesses, WordsWithArguments, Statements, DeclaredTypes, Strings, TautologyTokens, ReplicatedTypesByName, Comparisons, WordsAlone, ShortStatements, tautology_text, tautology_tree, TautologyWithinTwo, TautologyPastNone, NoProgram}
 use Rattle.std.specs.Prelude.{nat_le}
 use Rattle.std.specs.List.{list_all}
 use Rattle.std.proofs.lemmas.Bool.Decides.{nat_tests}

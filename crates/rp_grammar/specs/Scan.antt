@@ -61,8 +61,3 @@ piece_of (b ∷ rest) =
     else (if is_digit b then number_from (b ∷ rest) 0 0
     else (if b == 34 then string_from rest false 1
     else mark_piece b rest)))
-
--- those of the texts that have n bytes
-abbrev pub of_length : ℕ → List (List ℕ) → List (List ℕ)
-of_length n [] = []
-of_length n (w ∷ ws) = if length w == n then w ∷ of_length n ws else of_length n ws

@@ -14,7 +14,7 @@ ghost use Rattle.rp_grammar.specs.Decls.{Decl};
 ghost use Rattle.rp_grammar.specs.Extents.{Covers, InParens, type_span, crdt_span, expr_span, decl_span};
 ghost use Rattle.rp_grammar.specs.Begins.{EndsInEnd};
 ghost use Rattle.rp_grammar.specs.Texts.{HasToks};
-ghost use Rattle.rp_grammar.specs.Rows as rows;
+ghost use Rattle.rp_grammar.specs.rows.Rows as rows;
 ghost use Rattle.rp_grammar.specs.Lexed.{Lexed, Faulty, EndsAt, Spelled};
 
 use crate::{LexFault, Symbol, Token, Word};

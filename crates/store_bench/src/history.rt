@@ -1,6 +1,7 @@
 // Histories to ask things of.
 use crate::shape::Shape;
-use crdt_lib::{CallRec, History, ListView};
+use crdt_defs::CallRec;
+use crdt_lib::{History, ListView};
 use rp_value::{List, Memory, Value};
 use std::alloc::Global;
 

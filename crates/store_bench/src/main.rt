@@ -5,7 +5,8 @@
 mod history;
 mod shape;
 
-use crdt_lib::{Found, History, ListView, is_snapshot, query_holds, query_value};
+use crdt_defs::Found;
+use crdt_lib::{History, ListView, is_snapshot, query_holds, query_value};
 use history::{every_call, long_past, made};
 use rp_lang::QueryKind;
 use rp_value::{List, Memory, Value};

@@ -1,5 +1,6 @@
 // How numbers, values, types, calls and histories are written. A list has commas; `-`, or nothing, is the empty one.
-use crdt_lib::{CallRec, History};
+use crdt_defs::CallRec;
+use crdt_lib::History;
 use rp_lang::{OpKind, PathStep, QueryKind};
 use rp_value::{List, Memory, Ty, Value};
 use std::alloc::Global;

@@ -2,9 +2,9 @@
 ghost use Rattle.std.specs.Prelude.{◌<◌, length};
 
 use crate::notation::{Word, call, cut, history, listed};
+use crdt_defs::Found;
 use crdt_lib::{
-    Found, History, ListView, View, atoms_of, holds, is_snapshot, query_holds, query_value,
-    value_of,
+    History, ListView, View, atoms_of, holds, is_snapshot, query_holds, query_value, value_of,
 };
 use rp_lang::Program;
 use rp_value::{List, Memory, Value};

@@ -4,10 +4,10 @@ use Rattle.rp_value.specs.declared.tables.Ty.{Ty}
 use Rattle.rp_value.specs.Values.{Val}
 use Rattle.rp_lang.specs.declared.op.OpDecl.{OpDecl}
 use Rattle.rp_lang.specs.Programs.{Prog}
-use Rattle.crdt_lib.specs.Calls.{Call}
-use Rattle.crdt_lib.specs.Doing.{on_root, goes_to_field, goes_to_key, keys_in}
-use Rattle.crdt_lib.specs.Meaning.{among, in_field, at_key}
-use Rattle.crdt_lib.specs.Fitting.{fits}
+use Rattle.crdt_defs.specs.Calls.{Call}
+use Rattle.crdt_defs.specs.Doing.{on_root, goes_to_field, goes_to_key, keys_in}
+use Rattle.crdt_defs.specs.Meaning.{among, in_field, at_key}
+use Rattle.crdt_defs.specs.Fitting.{fits}
 use Rattle.rp_logic.specs.Terms.{Tm}
 use Rattle.rp_logic.specs.Elements.{Elem}
 use Rattle.rp_logic.specs.Truth.{Meaning, value}

@@ -1,9 +1,9 @@
 -- Transactions that are visible in part, looked for in blocks of 16,384 numbers. No public clause cites this.
 use Rattle.std.specs.Prelude.{ℕ, ◌+◌, ◌-◌, ◌*◌, ◌/◌, Bool, ◌&&◌, not, nat_eq, nat_lt, nat_le, List}
-use Rattle.crdt_lib.specs.Calls.{Call}
-use Rattle.crdt_lib.specs.Counting.{any_below}
-use Rattle.crdt_lib.specs.Histories.{call_is, some_call}
-use Rattle.crdt_lib.specs.Snapshots.{bit}
+use Rattle.crdt_defs.specs.Calls.{Call}
+use Rattle.crdt_defs.specs.Counting.{any_below}
+use Rattle.crdt_defs.specs.Histories.{call_is, some_call}
+use Rattle.crdt_defs.specs.Snapshots.{bit}
 
 -- as many blocks as hold the numbers up to the bound
 abbrev pub blocks : ℕ → ℕ

@@ -3,9 +3,9 @@ use Rattle.std.specs.Prelude.{◌≡◌, ℕ, zero, suc, ◌+◌, ◌<◌, Bool,
 use Rattle.std.specs.List.{list_all}
 use Rattle.std.specs.Ordering.{nat_cmp}
 use Rattle.std.specs.FinSet as set
-use Rattle.crdt_lib.specs.Calls.{Call}
-use Rattle.crdt_lib.specs.Histories.{call_is, past_of}
-use Rattle.crdt_lib.specs.Snapshots.{bit}
+use Rattle.crdt_defs.specs.Calls.{Call}
+use Rattle.crdt_defs.specs.Histories.{call_is, past_of}
+use Rattle.crdt_defs.specs.Snapshots.{bit}
 
 -- c is committed, and its past is visible
 abbrev pub caused_at : List Call → List Bool → (ℕ → Bool) → ℕ → Bool

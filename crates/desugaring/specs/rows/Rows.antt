@@ -15,7 +15,7 @@ use Rattle.rp_grammar.specs.declared.operator.CompareOp.{CompareOp}
 use Rattle.rp_grammar.specs.declared.operator.CompareOp.TheVariants as compare
 use Rattle.rp_grammar.specs.declared.operator.CallWord.{CallWord}
 use Rattle.rp_grammar.specs.Trees.{Ident, ident, TypeTree, TypeForm, ParamTree, CrdtTree, CrdtForm, FieldTree, PatternTree, ExprTree, ExprForm, ExprArmTree, AccessTree, StepTree, ArgTrees, BlockTree, StmtTree, StmtForm, ElseTree, BlockArmTree, ConTree, QueryTree, ProcTree, DeclTree, DeclForm, fields, exprs, expr_arms, steps, stmts, block_arms}
-use Rattle.rp_grammar.specs.Rows.{span}
+use Rattle.rp_grammar.specs.rows.Rows.{span}
 use Rattle.rp_lang.specs.Exprs.{Ex, Slot, Exs, no_ex, also_ex}
 use Rattle.rp_lang.specs.Formulas.{Fo, Or, Not, Holds, no_fo, also_fo}
 use Rattle.rp_lang.specs.Stmts.{St, Assert, Atomic, Sts, no_st, also_st}

@@ -3,7 +3,7 @@ use Rattle.std.specs.Prelude.{ℕ, ◌+◌, List, [], ◌∷◌, ◌++◌, codes
 use Rattle.rp_grammar.specs.declared.operator.CompareOp.TheVariants as compare
 use Rattle.rp_grammar.specs.declared.operator.CallWord.TheVariants as called
 use Rattle.rp_grammar.specs.Trees.{ParamTree, TypeForm, CrdtTree, CrdtForm, ExprTree, ExprForm, AccessTree, StepTree, ArgTrees, StmtTree, StmtForm, ElseTree, ProcTree, DeclTree, DeclForm, exprs, steps}
-use Rattle.rp_grammar.specs.Rows.{span, name_at, expr_at, variable, type_at, named_type, stmt_at, block_at}
+use Rattle.rp_grammar.specs.rows.Rows.{span, name_at, expr_at, variable, type_at, named_type, stmt_at, block_at}
 
 abbrev pub decl_at : ℕ → ℕ → DeclForm → DeclTree
 decl_at from to form = DeclTree.node (span from to) form

@@ -1,10 +1,10 @@
 -- A structure that fits the parts of a state, in two halves: all but atoms, and atoms.
 use Rattle.std.specs.Prelude.{◌+ℤ◌, ◌-ℤ◌, ◌≡◌, ◌<◌, ℕ, nat_lt, length, Some, slice_get}
 use Rattle.rp_lang.specs.Programs.{Prog}
-use Rattle.crdt_lib.specs.Parts.{Parts, Info, is_committed}
-use Rattle.crdt_lib.specs.Truths.{ended}
-use Rattle.crdt_lib.specs.Calls.{Call}
-use Rattle.crdt_lib.specs.Histories.{same_tx}
+use Rattle.crdt_defs.specs.Parts.{Parts, Info, is_committed}
+use Rattle.crdt_defs.specs.Truths.{ended}
+use Rattle.crdt_defs.specs.Calls.{Call}
+use Rattle.crdt_defs.specs.Histories.{same_tx}
 use Rattle.rp_logic.specs.Elements.{Elem, Elems, Point, Whole, Made}
 use Rattle.rp_logic.specs.Structures.{first_number, second_number}
 use Rattle.rp_logic.specs.Truth.{Meaning}

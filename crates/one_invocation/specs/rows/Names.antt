@@ -5,7 +5,7 @@ use Rattle.rp_lang.specs.declared.goal.GoalName.{GoalName}
 use Rattle.rp_lang.specs.declared.goal.GoalKind.{GoalKind}
 use Rattle.rp_lang.specs.declared.goal.GoalKind.TheVariants.{Init, Invoke, Assert, Commit, Return}
 use Rattle.rp_lang.specs.rows.Samples.{span}
-use Rattle.event_machine.specs.Worked.{nowhere}
+use Rattle.event_machine.specs.rows.Worked.{nowhere}
 
 -- of an invariant at the start
 abbrev pub at_start : Span → ℕ → GoalName

@@ -4,7 +4,7 @@ use Rattle.rp_lang.specs.Exprs.{Con, no_ex}
 use Rattle.rp_lang.specs.Formulas.{Holds}
 use Rattle.rp_lang.specs.Programs.{Prog}
 use Rattle.rp_lang.specs.rows.Samples.{over_sets, norem, add}
-use Rattle.event_machine.specs.Worked.{nowhere, pickers}
+use Rattle.event_machine.specs.rows.Worked.{nowhere, pickers}
 
 -- One set, to which each invocation adds an identifier of its own: no user is removed.
 abbrev pub only_adds : Prog

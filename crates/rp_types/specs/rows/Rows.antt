@@ -2,7 +2,7 @@
 use Rattle.std.specs.Prelude.{◌≡◌, ℕ, true, [], ◌∷◌, None, codes}
 use Rattle.rp_span.specs.declared.Span.{Span}
 use Rattle.rp_value.specs.declared.tables.Ty.TheVariants.{Datatype}
-use Rattle.rp_grammar.specs.Rows.{tautology_tree}
+use Rattle.rp_grammar.specs.rows.Rows.{tautology_tree}
 use Rattle.rp_lang.specs.Exprs.{Slot}
 use Rattle.rp_lang.specs.Formulas.{Fo, Or, Not, Holds, no_fo, also_fo}
 use Rattle.rp_lang.specs.Stmts.{Assert, no_st, also_st}

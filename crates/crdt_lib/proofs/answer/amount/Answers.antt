@@ -1,7 +1,7 @@
 use Rattle.std.proofs.Common.{◌∙◌, ap, sym, subst, ℤ, pos, negsuc, ◌≤ℤ◌, rules, arith}
 use Rattle.std.proofs.lemmas.Int.{ints, to_z-of_z}
-use Rattle.crdt_lib.specs.Calls.{calls_view}
-use Rattle.crdt_lib.specs.Doing as spec
+use Rattle.crdt_defs.specs.Calls.{calls_view}
+use Rattle.crdt_defs.specs.Doing as spec
 use Rattle.crdt_lib.proofs.AmountLemmas.{amount_least, amount_most}
 use Rattle.crdt_lib.proofs.answer.amount.Goals as goal
 

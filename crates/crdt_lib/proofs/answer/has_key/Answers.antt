@@ -1,6 +1,6 @@
 use Rattle.std.proofs.Common.{◌∙◌, ap}
-use Rattle.crdt_lib.specs.Calls.{calls_view}
-use Rattle.crdt_lib.specs.Histories.{some_call}
+use Rattle.crdt_defs.specs.Calls.{calls_view}
+use Rattle.crdt_defs.specs.Histories.{some_call}
 use Rattle.crdt_lib.proofs.answer.has_key.Goals as goal
 
 pub returns : goal.returns

@@ -1,10 +1,10 @@
 use Rattle.std.proofs.Common.{◌∙◌, ap}
 use Rattle.rp_value.specs.ValueView.{value_view}
 use Rattle.rp_lang.specs.declared.op.OpKind.TheVariants.{Assign}
-use Rattle.crdt_lib.specs.Calls.{calls_view}
-use Rattle.crdt_lib.specs.Snapshots.{bit}
-use Rattle.crdt_lib.specs.Doing as spec
-use Rattle.crdt_lib.specs.Meaning.{among, one_stays}
+use Rattle.crdt_defs.specs.Calls.{calls_view}
+use Rattle.crdt_defs.specs.Snapshots.{bit}
+use Rattle.crdt_defs.specs.Doing as spec
+use Rattle.crdt_defs.specs.Meaning.{among, one_stays}
 use Rattle.crdt_lib.proofs.answer.has_value.Goals as goal
 
 pub returns : goal.returns

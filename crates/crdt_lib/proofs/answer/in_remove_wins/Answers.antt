@@ -1,11 +1,11 @@
 use Rattle.std.proofs.Common.{◌&&◌, not, ◌∙◌, ap}
 use Rattle.rp_value.specs.ValueView.{value_view}
 use Rattle.rp_lang.specs.declared.op.OpKind.TheVariants.{Remove}
-use Rattle.crdt_lib.specs.Calls.{calls_view}
-use Rattle.crdt_lib.specs.Histories.{some_call}
-use Rattle.crdt_lib.specs.Snapshots.{bit}
-use Rattle.crdt_lib.specs.Doing as spec
-use Rattle.crdt_lib.specs.Meaning.{among, one_stays}
+use Rattle.crdt_defs.specs.Calls.{calls_view}
+use Rattle.crdt_defs.specs.Histories.{some_call}
+use Rattle.crdt_defs.specs.Snapshots.{bit}
+use Rattle.crdt_defs.specs.Doing as spec
+use Rattle.crdt_defs.specs.Meaning.{among, one_stays}
 use Rattle.crdt_lib.proofs.answer.in_remove_wins.Goals as goal
 
 pub returns : goal.returns

@@ -1,9 +1,9 @@
 use Rattle.std.proofs.Common.{◌≡◌, ◌∙◌, ap, slice_get, arith, length}
 use Rattle.rp_lang.specs.declared.op.OpKind.TheVariants.{Assign}
-use Rattle.crdt_lib.specs.Calls.{calls_view}
-use Rattle.crdt_lib.specs.Snapshots.{bit}
-use Rattle.crdt_lib.specs.Doing as spec
-use Rattle.crdt_lib.specs.Meaning.{among, stamp_of}
+use Rattle.crdt_defs.specs.Calls.{calls_view}
+use Rattle.crdt_defs.specs.Snapshots.{bit}
+use Rattle.crdt_defs.specs.Doing as spec
+use Rattle.crdt_defs.specs.Meaning.{among, stamp_of}
 use Rattle.crdt_lib.proofs.NewestLemmas.{newest_below, newest_is_latest}
 use Rattle.crdt_lib.proofs.answer.newest.Goals as goal
 

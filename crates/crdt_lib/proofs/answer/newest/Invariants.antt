@@ -1,9 +1,9 @@
 use Rattle.std.proofs.Common.{◌≡◌, ◌<◌, slice_get, IfSome}
 use Rattle.rp_lang.specs.declared.op.OpKind.TheVariants.{Assign}
-use Rattle.crdt_lib.specs.Calls.{calls_view}
-use Rattle.crdt_lib.specs.Snapshots.{bit}
-use Rattle.crdt_lib.specs.Doing as spec
-use Rattle.crdt_lib.specs.Meaning.{among, stamp_of}
+use Rattle.crdt_defs.specs.Calls.{calls_view}
+use Rattle.crdt_defs.specs.Snapshots.{bit}
+use Rattle.crdt_defs.specs.Doing as spec
+use Rattle.crdt_defs.specs.Meaning.{among, stamp_of}
 use Rattle.crdt_lib.proofs.NewestLemmas.{newest_below}
 use Rattle.crdt_lib.proofs.answer.newest.Given as goal
 

@@ -1,8 +1,8 @@
 use Rattle.std.proofs.Common.{◌≡◌, ◌*◌, slice_get, pos, ◌+ℤ◌, ◌≤ℤ◌, if◌then◌else◌}
-use Rattle.crdt_lib.specs.Calls.{calls_view}
-use Rattle.crdt_lib.specs.Counting.{sum_below}
-use Rattle.crdt_lib.specs.Snapshots.{bit}
-use Rattle.crdt_lib.specs.Doing as spec
+use Rattle.crdt_defs.specs.Calls.{calls_view}
+use Rattle.crdt_defs.specs.Counting.{sum_below}
+use Rattle.crdt_defs.specs.Snapshots.{bit}
+use Rattle.crdt_defs.specs.Doing as spec
 use Rattle.crdt_lib.proofs.answer.total.Given as goal
 
 abbrev pub invariant-loop-c : goal.invariant-loop-c

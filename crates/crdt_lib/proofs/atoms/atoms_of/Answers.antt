@@ -1,6 +1,6 @@
 use Rattle.std.proofs.Common.{ℕ, ◌++◌, List, Contains, sym, ap, subst, ◌∙◌}
 use Rattle.rp_value.specs.ValueView.{value_view}
-use Rattle.crdt_lib.specs.Atoms as spec
+use Rattle.crdt_defs.specs.Atoms as spec
 use Rattle.crdt_lib.proofs.atoms.atoms_of.Goals as goal
 
 pub returns-clause-all : goal.returns-clause-all

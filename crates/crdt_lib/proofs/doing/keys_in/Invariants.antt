@@ -1,5 +1,5 @@
 use Rattle.std.proofs.Common.{◌≡◌, ◌≤◌, take, count_by}
-use Rattle.crdt_lib.specs.Doing.{is_key}
+use Rattle.crdt_defs.specs.Doing.{is_key}
 use Rattle.crdt_lib.proofs.doing.keys_in.Given as goal
 
 abbrev pub invariant-loop-step : goal.invariant-loop-step

@@ -1,4 +1,4 @@
-use Rattle.crdt_lib.proofs.SameLemmas.{same_is}
+use Rattle.crdt_defs.proofs.SameLemmas.{same_is}
 use Rattle.crdt_lib.proofs.doing.same.Goals as goal
 
 pub returns : goal.returns

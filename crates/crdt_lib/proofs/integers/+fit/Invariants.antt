@@ -1,6 +1,6 @@
 use Rattle.std.proofs.Common.{◌≡◌, drop}
 use Rattle.rp_value.specs.ValueView.{values_view}
-use Rattle.crdt_lib.specs.Atoms as spec
+use Rattle.crdt_defs.specs.Atoms as spec
 use Rattle.crdt_lib.proofs.integers.+fit.Given as goal
 
 abbrev pub invariant-all_ints_fit-loop-value : goal.invariant-all_ints_fit-loop-value

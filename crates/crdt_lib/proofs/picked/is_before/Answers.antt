@@ -1,8 +1,8 @@
 use Rattle.std.proofs.Common.{◌≡◌, true, false, arith, ◌∙◌}
 use Rattle.std.proofs.lemmas.Grind.{common_steps}
 use Rattle.std.specs.List.{list_any}
-use Rattle.crdt_lib.specs.Calls.{calls_view}
-use Rattle.crdt_lib.specs.Histories.{before}
+use Rattle.crdt_defs.specs.Calls.{calls_view}
+use Rattle.crdt_defs.specs.Histories.{before}
 use Rattle.crdt_lib.proofs.PickedLemmas.{before_listed}
 use Rattle.crdt_lib.proofs.picked.is_before.Goals as goal
 

@@ -1,7 +1,7 @@
 use Rattle.std.proofs.Common.{◌≡◌, drop}
 use Rattle.std.specs.List.{list_any}
-use Rattle.crdt_lib.specs.Calls.{calls_view}
-use Rattle.crdt_lib.specs.Histories.{before}
+use Rattle.crdt_defs.specs.Calls.{calls_view}
+use Rattle.crdt_defs.specs.Histories.{before}
 use Rattle.crdt_lib.proofs.picked.is_before.Given as goal
 
 abbrev pub invariant-loop-d : goal.invariant-loop-d

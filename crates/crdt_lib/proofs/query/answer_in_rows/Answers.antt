@@ -2,8 +2,8 @@ use Rattle.std.proofs.Common.{◌∙◌, ap, map, slice_get}
 use Rattle.rp_value.specs.ValueView.{value_view}
 use Rattle.rp_lang.specs.Paths.{root_crdt}
 use Rattle.rp_lang.specs.Views.{root_view}
-use Rattle.crdt_lib.specs.Calls.{calls_view}
-use Rattle.crdt_lib.specs.Queries as spec
+use Rattle.crdt_defs.specs.Calls.{calls_view}
+use Rattle.crdt_defs.specs.Queries as spec
 use Rattle.crdt_lib.proofs.query.answer_in_rows.Goals as goal
 
 pub returns : goal.returns

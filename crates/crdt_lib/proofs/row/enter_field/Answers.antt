@@ -1,6 +1,6 @@
 use Rattle.std.proofs.Common.{arith}
-use Rattle.crdt_lib.specs.Snapshots.{bit}
-use Rattle.crdt_lib.specs.Doing as spec
+use Rattle.crdt_defs.specs.Snapshots.{bit}
+use Rattle.crdt_defs.specs.Doing as spec
 use Rattle.crdt_lib.proofs.BitLemmas.{row_is_among}
 use Rattle.crdt_lib.proofs.row.enter_field.Goals as goal
 

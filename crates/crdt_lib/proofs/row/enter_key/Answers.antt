@@ -1,7 +1,7 @@
 use Rattle.std.proofs.Common.{◌<◌, length, arith}
 use Rattle.rp_value.specs.ValueView.{value_view}
-use Rattle.crdt_lib.specs.Snapshots.{bit}
-use Rattle.crdt_lib.specs.Doing as spec
+use Rattle.crdt_defs.specs.Snapshots.{bit}
+use Rattle.crdt_defs.specs.Doing as spec
 use Rattle.crdt_lib.proofs.BitLemmas.{row_is_among, row_more}
 use Rattle.crdt_lib.proofs.row.enter_key.Goals as goal
 

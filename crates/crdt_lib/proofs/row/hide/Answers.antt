@@ -1,9 +1,9 @@
 use Rattle.std.proofs.Common.{ℕ, Bool, ◌&&◌, not, ◌∙◌, ap, arith}
 use Rattle.rp_value.specs.ValueView.{value_view}
-use Rattle.crdt_lib.specs.Calls.{calls_view}
-use Rattle.crdt_lib.specs.Snapshots.{bit}
-use Rattle.crdt_lib.specs.Doing as spec
-use Rattle.crdt_lib.specs.Meaning.{among, loses}
+use Rattle.crdt_defs.specs.Calls.{calls_view}
+use Rattle.crdt_defs.specs.Snapshots.{bit}
+use Rattle.crdt_defs.specs.Doing as spec
+use Rattle.crdt_defs.specs.Meaning.{among, loses}
 use Rattle.crdt_lib.proofs.BitLemmas.{hides_more}
 use Rattle.crdt_lib.proofs.row.hide.Goals as goal
 

@@ -1,6 +1,6 @@
 use Rattle.std.proofs.Common.{◌<◌, length, arith}
 use Rattle.std.specs.FinSet as set
-use Rattle.crdt_lib.specs.Doing as spec
+use Rattle.crdt_defs.specs.Doing as spec
 use Rattle.crdt_lib.proofs.BitLemmas.{row_is_among, row_more}
 use Rattle.crdt_lib.proofs.row.mark.Goals as goal
 

@@ -1,6 +1,6 @@
 use Rattle.std.proofs.Common.{◌≡◌, arith, true, false}
 use Rattle.std.specs.FinSet as set
-use Rattle.crdt_lib.specs.Calls.{calls_view}
+use Rattle.crdt_defs.specs.Calls.{calls_view}
 use Rattle.crdt_lib.specs.means.Members.{caused_at}
 use Rattle.crdt_lib.proofs.MemberLemmas.{step_yes, step_no}
 use Rattle.crdt_lib.proofs.snapshot.caused_members.Goals as goal

@@ -1,5 +1,5 @@
 use Rattle.std.proofs.Common.{◌≤◌}
-use Rattle.crdt_lib.specs.Calls.{calls_view}
+use Rattle.crdt_defs.specs.Calls.{calls_view}
 use Rattle.crdt_lib.specs.means.Members.{AreCausedBelow}
 use Rattle.crdt_lib.proofs.snapshot.caused_members.Given as goal
 

@@ -1,8 +1,8 @@
 use Rattle.std.proofs.Common.{◌≡◌, ◌&&◌, not, false}
 use Rattle.std.specs.FinSet as set
-use Rattle.crdt_lib.specs.Calls.{calls_view}
-use Rattle.crdt_lib.specs.Histories.{call_is}
-use Rattle.crdt_lib.specs.Counting.{any_below}
+use Rattle.crdt_defs.specs.Calls.{calls_view}
+use Rattle.crdt_defs.specs.Histories.{call_is}
+use Rattle.crdt_defs.specs.Counting.{any_below}
 use Rattle.crdt_lib.specs.means.Blocks.{is_marked}
 use Rattle.crdt_lib.proofs.snapshot.misses_one.Given as goal
 

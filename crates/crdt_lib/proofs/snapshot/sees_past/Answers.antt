@@ -1,7 +1,7 @@
 use Rattle.std.proofs.Common.{sym, ◌∙◌, ap}
 use Rattle.std.specs.List.{list_all}
 use Rattle.std.specs.FinSet as set
-use Rattle.crdt_lib.specs.Histories.{past_of}
+use Rattle.crdt_defs.specs.Histories.{past_of}
 use Rattle.crdt_lib.proofs.snapshot.sees_past.Goals as goal
 
 pub returns : goal.returns

@@ -1,6 +1,6 @@
 use Rattle.std.proofs.Common.{◌*◌, ◌∙◌}
 use Rattle.std.specs.FinSet as set
-use Rattle.crdt_lib.specs.Calls.{calls_view}
+use Rattle.crdt_defs.specs.Calls.{calls_view}
 use Rattle.crdt_lib.proofs.BlockLemmas.{none_marked, missed_calls}
 use Rattle.crdt_lib.proofs.snapshot.splits_in.Goals as goal
 

@@ -1,7 +1,7 @@
 use Rattle.std.proofs.Common.{◌≡◌, false}
 use Rattle.std.specs.FinSet as set
-use Rattle.crdt_lib.specs.Calls.{calls_view}
-use Rattle.crdt_lib.specs.Counting.{any_below}
+use Rattle.crdt_defs.specs.Calls.{calls_view}
+use Rattle.crdt_defs.specs.Counting.{any_below}
 use Rattle.crdt_lib.specs.means.Blocks.{splits}
 use Rattle.crdt_lib.proofs.snapshot.splits_one.Given as goal
 

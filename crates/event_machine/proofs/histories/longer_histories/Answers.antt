@@ -1,4 +1,4 @@
-use Rattle.crdt_lib.proofs.QueryLonger.{query-same}
+use Rattle.crdt_defs.proofs.QueryLonger.{query-same}
 use Rattle.event_machine.proofs.HistoryLaws.{truth-beside}
 use Rattle.event_machine.proofs.histories.longer_histories.Goals as goal
 

@@ -1,5 +1,5 @@
 use Rattle.std.specs.Prelude.{false}
-use Rattle.crdt_lib.specs.Histories.{before}
+use Rattle.crdt_defs.specs.Histories.{before}
 use Rattle.event_machine.specs.OldCalls.{old, old_part}
 use Rattle.event_machine.proofs.ViewLemmas.{closed-snapshot, snapshot-closed}
 use Rattle.event_machine.proofs.SnapshotLemmas.{nothing-closed, old-closed, mark-closed, part-closed, step-keeps}

@@ -1,7 +1,7 @@
 use Rattle.std.proofs.Common.{sym, ◌∙◌, ap, subst, nat_eq}
 use Rattle.std.specs.List.{list_any}
 use Rattle.std.specs.List.Sorted.{IsStrictlyIncreasing}
-use Rattle.crdt_lib.specs.Histories.{meets}
+use Rattle.crdt_defs.specs.Histories.{meets}
 use Rattle.crdt_lib.proofs.history.History.before.Goals as goal
 
 pub is_listed-requires : goal.is_listed-requires

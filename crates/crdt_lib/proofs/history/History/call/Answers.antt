@@ -1,7 +1,7 @@
 use Rattle.std.proofs.Common.{subst, Option}
 use Rattle.std.specs.List.Sorted.{IsStrictlyIncreasing}
-use Rattle.crdt_lib.specs.Calls.{Call}
-use Rattle.crdt_lib.specs.Histories.{past_of}
+use Rattle.crdt_defs.specs.Calls.{Call}
+use Rattle.crdt_defs.specs.Histories.{past_of}
 use Rattle.crdt_lib.proofs.HistoryLemmas.{seen_call}
 use Rattle.crdt_lib.proofs.history.History.call.Goals as goal
 

@@ -1,6 +1,6 @@
 use Rattle.std.proofs.Common.{sym, ◌∙◌, ap, subst, length}
-use Rattle.crdt_lib.specs.Calls.{call_view, calls_view}
-use Rattle.crdt_lib.specs.Histories.{MayFollow}
+use Rattle.crdt_defs.specs.Calls.{call_view, calls_view}
+use Rattle.crdt_defs.specs.Histories.{MayFollow}
 use Rattle.crdt_lib.proofs.HistoryLemmas.{seen_length, seen_push, history_push}
 use Rattle.crdt_lib.proofs.history.History.push.Goals as goal
 

@@ -13,18 +13,18 @@ use Rattle.rp_lang.specs.declared.op.PathStep.{PathStep}
 use Rattle.rp_lang.specs.declared.op.PathStep.TheVariants.{Field, Key}
 use Rattle.rp_lang.specs.declared.query.QueryDecl.{QueryDecl}
 use Rattle.rp_lang.specs.declared.query.QueryKind.{QueryKind}
-use Rattle.crdt_lib.specs.declared.asked.Answer.{Answer}
-use Rattle.crdt_lib.specs.declared.asked.Answer.TheVariants.{Truth, Value}
-use Rattle.crdt_lib.specs.declared.asked.Found.TheVariants.{Sum, At, Nothing}
-use Rattle.crdt_lib.specs.declared.asked.Question.{Question}
-use Rattle.crdt_lib.specs.declared.asked.Question.TheVariants.{AddWins, RemoveWins, ManyValues, Latest, Total, AtKey}
-use Rattle.crdt_lib.specs.Calls.{Call}
-use Rattle.crdt_lib.specs.Counting.{or_this, first_below}
-use Rattle.crdt_lib.specs.Doing.{own_argument, on_root, goes_to_key}
-use Rattle.crdt_lib.specs.Meaning.{among, in_field, at_key, latest}
+use Rattle.crdt_defs.specs.declared.asked.Answer.{Answer}
+use Rattle.crdt_defs.specs.declared.asked.Answer.TheVariants.{Truth, Value}
+use Rattle.crdt_defs.specs.declared.asked.Found.TheVariants.{Sum, At, Nothing}
+use Rattle.crdt_defs.specs.declared.asked.Question.{Question}
+use Rattle.crdt_defs.specs.declared.asked.Question.TheVariants.{AddWins, RemoveWins, ManyValues, Latest, Total, AtKey}
+use Rattle.crdt_defs.specs.Calls.{Call}
+use Rattle.crdt_defs.specs.Counting.{or_this, first_below}
+use Rattle.crdt_defs.specs.Doing.{own_argument, on_root, goes_to_key}
+use Rattle.crdt_defs.specs.Meaning.{among, in_field, at_key, latest}
 use Rattle.rp_lang.specs.Paths.{field_in}
-use Rattle.crdt_lib.specs.Queries.{question, at_call, answer_at, held_in, winner_in, ask, answer_by, answer_in}
-use Rattle.crdt_lib.specs.Truths.{Reading, truth_val, or_false, nth_con, answer_val, asked}
+use Rattle.crdt_defs.specs.Queries.{question, at_call, answer_at, held_in, winner_in, ask, answer_by, answer_in}
+use Rattle.crdt_defs.specs.Truths.{Reading, truth_val, or_false, nth_con, answer_val, asked}
 
 -- # The call that an answer names
 

@@ -7,8 +7,8 @@ use Rattle.rp_lang.specs.declared.op.OpKind.{OpKind}
 use Rattle.rp_lang.specs.declared.op.OpKind.TheVariants.{Tx, Add, Remove, Assign, Increment, Delete}
 use Rattle.rp_lang.specs.declared.op.PathStep.{PathStep}
 use Rattle.rp_lang.specs.declared.op.PathStep.TheVariants.{Field, Key}
-use Rattle.crdt_lib.specs.Calls.{Call}
-use Rattle.crdt_lib.specs.SameValues.{value_is}
+use Rattle.crdt_defs.specs.Calls.{Call}
+use Rattle.crdt_defs.specs.SameValues.{value_is}
 
 abbrev pub is_key : PathStep → Bool
 is_key (Key ty) = true

@@ -3,12 +3,12 @@ ghost use Rattle.std.specs.Prelude.{◌≡◌, true, false, [], ◌∷◌, pos, 
 ghost use Rattle.rp_value.specs.declared.tables.Ty.TheVariants as ty;
 ghost use Rattle.rp_lang.specs.Crdts as cr;
 ghost use Rattle.rp_lang.specs.declared.query.QueryKind.TheVariants.{Contains, GetReg};
-ghost use Rattle.crdt_lib.specs.declared.asked.Answer.TheVariants.{Truth, Value};
-ghost use Rattle.crdt_lib.specs.declared.asked.Found.TheVariants.{Sum, At, Nothing};
-ghost use Rattle.crdt_lib.specs.rows.Rows.{ids, id, int, side_by_side, in_order, first, last_two, added_beside_removed, value_at_key, has_key, last_of, keeps, total, in_struct, nested_value};
+ghost use Rattle.crdt_defs.specs.declared.asked.Answer.TheVariants.{Truth, Value};
+ghost use Rattle.crdt_defs.specs.declared.asked.Found.TheVariants.{Sum, At, Nothing};
+ghost use Rattle.crdt_defs.specs.rows.Rows.{ids, id, int, side_by_side, in_order, first, last_two, added_beside_removed, value_at_key, has_key, last_of, keeps, total, in_struct, nested_value};
 ghost use Rattle.rp_lang.specs.Exprs as ex;
 ghost use Rattle.rp_lang.specs.Formulas.{Not, Holds, Equal, Less, AtMost, Visible, Before, Same};
-ghost use Rattle.crdt_lib.specs.rows.TruthRows.{holds, each_id, each_call, some_call, some_inv, x, one, is_user, last, some_of, by_last, both, add, greatest};
+ghost use Rattle.crdt_defs.specs.rows.TruthRows.{holds, each_id, each_call, some_call, some_inv, x, one, is_user, last, some_of, by_last, both, add, greatest};
 
 /// An add beside a remove of the same element.
 pub fn add_beside_remove()

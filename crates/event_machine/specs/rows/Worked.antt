@@ -10,7 +10,7 @@ use Rattle.rp_lang.specs.Stmts.{St, Sts, Put, New, Match, Atomic, ReturnWith, no
 use Rattle.rp_lang.specs.Programs.{Proc, Prog}
 use Rattle.event_machine.specs.States.{Label, Invoke, Begin, Op, Local, Commit, Return, Fail, Check}
 use Rattle.event_machine.specs.States as label
-use Rattle.event_machine.specs.Samples.{span}
+use Rattle.event_machine.specs.rows.Samples.{span}
 
 -- # Labels of the program over two sets
 

@@ -9,7 +9,7 @@ use Rattle.rp_value.specs.declared.value.Value.{Value}
 use Rattle.rp_value.specs.Values.{Val, Int, Str, Atom, Con, Call, Inv, Vals, no_val, also_val}
 use Rattle.rp_value.specs.ValueView.{value_view}
 use Rattle.rp_value.proofs.ValueBack.{same_value_view}
-use Rattle.crdt_lib.specs.SameValues.{same_val, same_vals}
+use Rattle.crdt_defs.specs.SameValues.{same_val, same_vals}
 
 mutual
   pub same_val_is : (a b : Val) → same_val a b ≡ true → a ≡ b

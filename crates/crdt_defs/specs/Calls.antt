@@ -2,7 +2,7 @@
 use Rattle.std.specs.Prelude.{ℕ, List, map}
 use Rattle.rp_value.specs.Values.{Val}
 use Rattle.rp_value.specs.ValueView.{value_view}
-use Rattle.crdt_lib.specs.declared.call.CallRec.{CallRec}
+use Rattle.crdt_defs.specs.declared.call.CallRec.{CallRec}
 
 pub record Call : Type 0 where
   -- the operation's number

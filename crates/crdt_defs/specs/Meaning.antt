@@ -3,12 +3,12 @@ use Rattle.std.specs.Prelude.{ℕ, Bool, ◌&&◌, not, nat_lt, ℤ, pos, if◌t
 use Rattle.rp_value.specs.Values.{Val}
 use Rattle.rp_lang.specs.declared.op.OpDecl.{OpDecl}
 use Rattle.rp_lang.specs.declared.op.OpKind.TheVariants.{Add, Remove, Assign}
-use Rattle.crdt_lib.specs.declared.asked.Winner.{Winner}
-use Rattle.crdt_lib.specs.declared.asked.Winner.TheVariants.{Update, Delete}
-use Rattle.crdt_lib.specs.Calls.{Call}
-use Rattle.crdt_lib.specs.Counting.{sum_below, first_below}
-use Rattle.crdt_lib.specs.Histories.{call_is, before, some_call}
-use Rattle.crdt_lib.specs.Doing.{is_of, does, goes_to_field, goes_to_key, deletes, amount}
+use Rattle.crdt_defs.specs.declared.asked.Winner.{Winner}
+use Rattle.crdt_defs.specs.declared.asked.Winner.TheVariants.{Update, Delete}
+use Rattle.crdt_defs.specs.Calls.{Call}
+use Rattle.crdt_defs.specs.Counting.{sum_below, first_below}
+use Rattle.crdt_defs.specs.Histories.{call_is, before, some_call}
+use Rattle.crdt_defs.specs.Doing.{is_of, does, goes_to_field, goes_to_key, deletes, amount}
 
 -- those of a set that are calls which meet a test
 abbrev pub among : List Call → (ℕ → Bool) → (Call → Bool) → ℕ → Bool

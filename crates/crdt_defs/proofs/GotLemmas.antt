@@ -18,16 +18,16 @@ use Rattle.rp_lang.specs.declared.op.PathStep.{PathStep}
 use Rattle.rp_lang.specs.declared.op.PathStep.TheVariants.{Field, Key}
 use Rattle.rp_lang.specs.declared.query.QueryDecl.{QueryDecl}
 use Rattle.rp_lang.specs.declared.query.QueryKind.TheVariants.{GetReg, GetSum}
-use Rattle.crdt_lib.specs.declared.asked.Answer.{Answer}
-use Rattle.crdt_lib.specs.declared.asked.Answer.TheVariants.{Value}
-use Rattle.crdt_lib.specs.declared.asked.Found.TheVariants.{Sum, At, Nothing}
-use Rattle.crdt_lib.specs.Calls.{Call}
-use Rattle.crdt_lib.specs.Doing.{same_kind, meets_op, op_is, is_of, on_root, is_field, is_some_key, goes_to_field, goes_to_key, own_argument}
-use Rattle.crdt_lib.specs.Histories.{meets, call_is}
-use Rattle.crdt_lib.specs.Meaning.{among, in_field, at_key, latest, counter_sum}
-use Rattle.crdt_lib.specs.Queries.{question, at_call, answer_at, held_in, winner_in, ask, answer_to, answer_by}
-use Rattle.crdt_lib.specs.Truths.{Reading, or_false, nth_con, answer_val, asked}
-use Rattle.crdt_lib.proofs.AskedLemmas.{first-meets}
+use Rattle.crdt_defs.specs.declared.asked.Answer.{Answer}
+use Rattle.crdt_defs.specs.declared.asked.Answer.TheVariants.{Value}
+use Rattle.crdt_defs.specs.declared.asked.Found.TheVariants.{Sum, At, Nothing}
+use Rattle.crdt_defs.specs.Calls.{Call}
+use Rattle.crdt_defs.specs.Doing.{same_kind, meets_op, op_is, is_of, on_root, is_field, is_some_key, goes_to_field, goes_to_key, own_argument}
+use Rattle.crdt_defs.specs.Histories.{meets, call_is}
+use Rattle.crdt_defs.specs.Meaning.{among, in_field, at_key, latest, counter_sum}
+use Rattle.crdt_defs.specs.Queries.{question, at_call, answer_at, held_in, winner_in, ask, answer_to, answer_by}
+use Rattle.crdt_defs.specs.Truths.{Reading, or_false, nth_con, answer_val, asked}
+use Rattle.crdt_defs.proofs.AskedLemmas.{first-meets}
 
 none-reached : (path : List PathStep) (end : Cr) → reached None path ≡ Some end → ⊥
 none-reached path end h = none-some end h

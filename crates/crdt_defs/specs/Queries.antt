@@ -10,18 +10,18 @@ use Rattle.rp_lang.specs.declared.op.PathStep.TheVariants.{Field, Key}
 use Rattle.rp_lang.specs.declared.query.QueryDecl.{QueryDecl}
 use Rattle.rp_lang.specs.declared.query.QueryKind.{QueryKind}
 use Rattle.rp_lang.specs.declared.query.QueryKind.TheVariants.{Contains, HasKey, GetReg, GetSum}
-use Rattle.crdt_lib.specs.declared.asked.Answer.{Answer}
-use Rattle.crdt_lib.specs.declared.asked.Answer.TheVariants.{Truth, Value}
-use Rattle.crdt_lib.specs.declared.asked.Found.{Found}
-use Rattle.crdt_lib.specs.declared.asked.Found.TheVariants.{Sum, At, Nothing}
-use Rattle.crdt_lib.specs.declared.asked.Question.{Question}
-use Rattle.crdt_lib.specs.declared.asked.Question.TheVariants.{AddWins, RemoveWins, ManyValues, Latest, Total, AtKey, NoQuestion}
-use Rattle.crdt_lib.specs.declared.asked.Winner.{Winner}
-use Rattle.crdt_lib.specs.declared.asked.Winner.TheVariants.{Update, Delete}
-use Rattle.crdt_lib.specs.Calls.{Call}
-use Rattle.crdt_lib.specs.Histories.{some_call}
-use Rattle.crdt_lib.specs.Doing.{on_root}
-use Rattle.crdt_lib.specs.Meaning.{among, in_field, at_key, contains_add_wins, contains_remove_wins, contains_value, latest, counter_sum}
+use Rattle.crdt_defs.specs.declared.asked.Answer.{Answer}
+use Rattle.crdt_defs.specs.declared.asked.Answer.TheVariants.{Truth, Value}
+use Rattle.crdt_defs.specs.declared.asked.Found.{Found}
+use Rattle.crdt_defs.specs.declared.asked.Found.TheVariants.{Sum, At, Nothing}
+use Rattle.crdt_defs.specs.declared.asked.Question.{Question}
+use Rattle.crdt_defs.specs.declared.asked.Question.TheVariants.{AddWins, RemoveWins, ManyValues, Latest, Total, AtKey, NoQuestion}
+use Rattle.crdt_defs.specs.declared.asked.Winner.{Winner}
+use Rattle.crdt_defs.specs.declared.asked.Winner.TheVariants.{Update, Delete}
+use Rattle.crdt_defs.specs.Calls.{Call}
+use Rattle.crdt_defs.specs.Histories.{some_call}
+use Rattle.crdt_defs.specs.Doing.{on_root}
+use Rattle.crdt_defs.specs.Meaning.{among, in_field, at_key, contains_add_wins, contains_remove_wins, contains_value, latest, counter_sum}
 
 -- what a kind of query asks of a type
 abbrev pub question : Cr → QueryKind → Question

@@ -11,9 +11,9 @@ use Rattle.rp_lang.specs.Exprs.{Ex, Exs, no_ex, also_ex}
 use Rattle.rp_lang.specs.Formulas.{Fo, And, All, Any, Holds, Match, no_fo, also_fo, no_arm, also_arm}
 use Rattle.rp_lang.specs.Stmts.{no_st}
 use Rattle.rp_lang.specs.Programs.{Prog}
-use Rattle.crdt_lib.specs.Calls.{Call}
-use Rattle.crdt_lib.specs.Parts.{Parts, ReturnedWith, Returned, Unreturned}
-use Rattle.crdt_lib.specs.Truths.{truth}
+use Rattle.crdt_defs.specs.Calls.{Call}
+use Rattle.crdt_defs.specs.Parts.{Parts, ReturnedWith, Returned, Unreturned}
+use Rattle.crdt_defs.specs.Truths.{truth}
 
 abbrev pub nowhere : Span
 nowhere = record { from = 0; to = 0 }

@@ -1,6 +1,6 @@
 -- A history to which calls were added.
 use Rattle.std.specs.Prelude.{◌≡◌, ℕ, ◌<◌, ◌≤◌, Bool, true, List, length, slice_get}
-use Rattle.crdt_lib.specs.Calls.{Call}
+use Rattle.crdt_defs.specs.Calls.{Call}
 
 -- a longer history, in which the calls keep their numbers
 pub record IsLonger (h longer_h : List Call) : Type 0 where

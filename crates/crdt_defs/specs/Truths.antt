@@ -13,17 +13,17 @@ use Rattle.rp_lang.specs.Exprs.{Ex, Slot, Bound, Int, Str, Con, Plus, Add, Sub, 
 use Rattle.rp_lang.specs.Formulas as fo
 use Rattle.rp_lang.specs.Formulas.{Fo, Fos, no_fo, also_fo, Arms, no_arm, also_arm}
 use Rattle.rp_lang.specs.Programs.{Prog}
-use Rattle.crdt_lib.specs.declared.asked.Answer.{Answer}
-use Rattle.crdt_lib.specs.declared.asked.Answer.TheVariants.{Truth, Value}
-use Rattle.crdt_lib.specs.declared.asked.Found.{Found}
-use Rattle.crdt_lib.specs.declared.asked.Found.TheVariants.{Sum, At, Nothing}
-use Rattle.crdt_lib.specs.Calls.{Call}
-use Rattle.crdt_lib.specs.Doing.{own_argument}
-use Rattle.crdt_lib.specs.Histories.{before, same_tx}
-use Rattle.crdt_lib.specs.Parts as parts
-use Rattle.crdt_lib.specs.Parts.{Parts, Info, Result, each_member, some_member, inv_before}
-use Rattle.crdt_lib.specs.Queries.{answer_in}
-use Rattle.crdt_lib.specs.SameValues.{same_val, same_vals}
+use Rattle.crdt_defs.specs.declared.asked.Answer.{Answer}
+use Rattle.crdt_defs.specs.declared.asked.Answer.TheVariants.{Truth, Value}
+use Rattle.crdt_defs.specs.declared.asked.Found.{Found}
+use Rattle.crdt_defs.specs.declared.asked.Found.TheVariants.{Sum, At, Nothing}
+use Rattle.crdt_defs.specs.Calls.{Call}
+use Rattle.crdt_defs.specs.Doing.{own_argument}
+use Rattle.crdt_defs.specs.Histories.{before, same_tx}
+use Rattle.crdt_defs.specs.Parts as parts
+use Rattle.crdt_defs.specs.Parts.{Parts, Info, Result, each_member, some_member, inv_before}
+use Rattle.crdt_defs.specs.Queries.{answer_in}
+use Rattle.crdt_defs.specs.SameValues.{same_val, same_vals}
 
 -- what an expression or a formula reads
 pub record Reading : Type 0 where

@@ -3,10 +3,10 @@ use Rattle.std.specs.Prelude.{ℕ, Bool, true, ◌&&◌, ◌||◌, not, nat_eq, 
 use Rattle.rp_value.specs.declared.tables.Ty.{Ty}
 use Rattle.rp_value.specs.declared.tables.Ty.TheVariants as ty
 use Rattle.rp_value.specs.Values.{Val, Atom, Call, Inv, false_val}
-use Rattle.crdt_lib.specs.Calls as calls
-use Rattle.crdt_lib.specs.Counting.{any_below, all_below}
-use Rattle.crdt_lib.specs.Histories.{call_is, before, some_call}
-use Rattle.crdt_lib.specs.Snapshots.{bit}
+use Rattle.crdt_defs.specs.Calls as calls
+use Rattle.crdt_defs.specs.Counting.{any_below, all_below}
+use Rattle.crdt_defs.specs.Histories.{call_is, before, some_call}
+use Rattle.crdt_defs.specs.Snapshots.{bit}
 
 -- whether an invocation has returned, and with which value
 pub data Result : Type 0 where

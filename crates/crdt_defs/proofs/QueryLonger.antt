@@ -13,24 +13,24 @@ use Rattle.rp_lang.specs.declared.op.PathStep.{PathStep}
 use Rattle.rp_lang.specs.declared.op.PathStep.TheVariants.{Field, Key}
 use Rattle.rp_lang.specs.declared.query.QueryDecl.{QueryDecl}
 use Rattle.rp_lang.specs.declared.query.QueryKind.{QueryKind}
-use Rattle.crdt_lib.specs.declared.asked.Answer.{Answer}
-use Rattle.crdt_lib.specs.declared.asked.Answer.TheVariants.{Truth, Value}
-use Rattle.crdt_lib.specs.declared.asked.Found.TheVariants.{Sum, At, Nothing}
-use Rattle.crdt_lib.specs.declared.asked.Question.{Question}
-use Rattle.crdt_lib.specs.declared.asked.Question.TheVariants.{AddWins, RemoveWins, ManyValues, Latest, Total, AtKey}
-use Rattle.crdt_lib.specs.declared.asked.Winner.{Winner}
-use Rattle.crdt_lib.specs.declared.asked.Winner.TheVariants.{Update, Delete}
-use Rattle.crdt_lib.specs.Calls.{Call}
-use Rattle.crdt_lib.specs.Counting.{first_below}
-use Rattle.crdt_lib.specs.Doing.{own_argument, is_of, does, on_root, goes_to_field, goes_to_key, deletes, amount}
-use Rattle.crdt_lib.specs.Histories.{meets, call_is, before, some_call}
-use Rattle.crdt_lib.specs.Meaning.{among, is_before_one, one_stays, in_field, loses, at_key, stamp_of, is_older, latest, counter_sum}
+use Rattle.crdt_defs.specs.declared.asked.Answer.{Answer}
+use Rattle.crdt_defs.specs.declared.asked.Answer.TheVariants.{Truth, Value}
+use Rattle.crdt_defs.specs.declared.asked.Found.TheVariants.{Sum, At, Nothing}
+use Rattle.crdt_defs.specs.declared.asked.Question.{Question}
+use Rattle.crdt_defs.specs.declared.asked.Question.TheVariants.{AddWins, RemoveWins, ManyValues, Latest, Total, AtKey}
+use Rattle.crdt_defs.specs.declared.asked.Winner.{Winner}
+use Rattle.crdt_defs.specs.declared.asked.Winner.TheVariants.{Update, Delete}
+use Rattle.crdt_defs.specs.Calls.{Call}
+use Rattle.crdt_defs.specs.Counting.{first_below}
+use Rattle.crdt_defs.specs.Doing.{own_argument, is_of, does, on_root, goes_to_field, goes_to_key, deletes, amount}
+use Rattle.crdt_defs.specs.Histories.{meets, call_is, before, some_call}
+use Rattle.crdt_defs.specs.Meaning.{among, is_before_one, one_stays, in_field, loses, at_key, stamp_of, is_older, latest, counter_sum}
 use Rattle.rp_lang.specs.Paths.{field_in, root_crdt}
-use Rattle.crdt_lib.specs.Queries.{question, at_call, answer_at, held_in, winner_in, ask, answer_by, answer_in}
-use Rattle.crdt_lib.specs.Truths.{or_false, nth_con, answer_val}
-use Rattle.crdt_lib.specs.Longer.{IsLonger, Bounded}
-use Rattle.crdt_lib.proofs.AskedLemmas.{named_call}
-use Rattle.crdt_lib.proofs.BelowLonger.{any-longer, first-longer, sum-longer}
+use Rattle.crdt_defs.specs.Queries.{question, at_call, answer_at, held_in, winner_in, ask, answer_by, answer_in}
+use Rattle.crdt_defs.specs.Truths.{or_false, nth_con, answer_val}
+use Rattle.crdt_defs.specs.Longer.{IsLonger, Bounded}
+use Rattle.crdt_defs.proofs.AskedLemmas.{named_call}
+use Rattle.crdt_defs.proofs.BelowLonger.{any-longer, first-longer, sum-longer}
 
 and-false : (a : Bool) → (a && false) ≡ false
 and-false true = refl

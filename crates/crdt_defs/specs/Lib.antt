@@ -1,0 +1,14 @@
+pub mod Atoms
+pub mod Calls
+pub mod Counting
+pub mod Doing
+pub mod Fitting
+pub mod Histories
+pub mod Longer
+pub mod Meaning
+pub mod Parts
+pub mod Queries
+pub mod SameValues
+pub mod Snapshots
+pub mod Truths
+pub mod rows

@@ -1,0 +1,3 @@
+-- Samples for worked rows.
+pub mod Samples
+pub mod Worked

@@ -1,0 +1,2 @@
+-- Samples for worked rows.
+pub mod Rows
