@@ -18,8 +18,8 @@ use Rattle.rp_lang.specs.Programs.{Prog, Rt}
 use Rattle.rp_lang.specs.Types.{is_ordinary}
 use Rattle.rp_lang.specs.Typing.{in_invariant}
 use Rattle.rp_lang.specs.WellFormed.{are_roots}
-use Rattle.rp_ast.proofs.Formed.{FormedCrdt, FormedCrdtForm, FormedFields, FormedDecls}
-use Rattle.rp_ast.proofs.BackBytes.{Lexable}
+use Rattle.rp_grammar.proofs.Formed.{FormedCrdt, FormedCrdtForm, FormedFields, FormedDecls}
+use Rattle.rp_grammar.proofs.FormedTexts.{Lexable, text_formed}
 use Rattle.type_rules.specs.declared.kind.Kind.{Kind}
 use Rattle.type_rules.specs.declared.kind.Base.{Base}
 use Rattle.type_rules.specs.declared.kind.Base.TheVariants as base
@@ -44,7 +44,6 @@ use Rattle.lawful.proofs.Arms.{flipped}
 use Rattle.lawful.proofs.Places.{Lawfully, all_parts, all_both, all_lawful, is_one_of, names_fresh}
 use Rattle.lawful.proofs.Entries.{entries_are}
 use Rattle.lawful.proofs.Atoms.{atom_sort}
-use Rattle.lawful.proofs.Texts.{formed}
 use Rattle.lawful.proofs.Behind.{decl_parts}
 use Rattle.lawful.proofs.Results.{pointwise_all}
 use Rattle.lawful.proofs.Flows.{either_false}
@@ -226,7 +225,7 @@ pub roots_well_formed : (bytes : List ℕ) (tree : List DeclTree) → IsText byt
 roots_well_formed bytes tree text p has =
     let t = tables_of tree in
     let n = names_of tree in
-    let facts = all_facts n nothing_seen 0 0 tree (all_lawful tree has.0.0) (formed bytes tree text) in
+    let facts = all_facts n nothing_seen 0 0 tree (all_lawful tree has.0.0) (text_formed bytes tree text) in
     let roots = roots_facts n n.entries (subst (AllByRecursion (EntryFacts n)) (sym (entries_are tree)) facts) in
     let made = each_there (λ (r : Root) (rt : Rt). root_of t r ≡ Some rt) (root_of t) (λ r rt e. e) t.roots p.roots has.0.1.roots in
     and_from (nat_le (length p.roots) 64) _ (within p has.1).roots

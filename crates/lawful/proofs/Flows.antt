@@ -12,8 +12,8 @@ use Rattle.rp_lang.specs.Formulas.{Fo, Holds}
 use Rattle.rp_lang.specs.Stmts.{St, Put, If, Match, Atomic, Sts, no_st, also_st, StArms, also_st_arm}
 use Rattle.rp_lang.specs.Flow.{sets, all_set, arms_set}
 use Rattle.rp_lang.specs.Blocks.{is_slot}
-use Rattle.rp_ast.proofs.Formed.{FormedStmt, FormedBlock, FormedStmts, FormedElse, FormedBlockArms}
-use Rattle.rp_ast.proofs.BackBytes.{Lexable}
+use Rattle.rp_grammar.proofs.Formed.{FormedStmt, FormedBlock, FormedStmts, FormedElse, FormedBlockArms}
+use Rattle.rp_grammar.proofs.FormedTexts.{Lexable}
 use Rattle.type_rules.specs.declared.kind.Kind.{Kind}
 use Rattle.type_rules.specs.Names.{Name, Names, text_of}
 use Rattle.type_rules.specs.Kinds.{kind_of}

@@ -5,7 +5,7 @@ use Rattle.rp_grammar.specs.Trees.{DeclForm, DeclTree}
 use Rattle.rp_grammar.specs.Texts.{IsText}
 use Rattle.rp_lang.specs.Programs.{Inv, Prog}
 use Rattle.rp_lang.specs.Typing.{in_invariant, is_typed}
-use Rattle.rp_ast.proofs.BackBytes.{Lexable}
+use Rattle.rp_grammar.proofs.FormedTexts.{Lexable, text_formed}
 use Rattle.type_rules.specs.Names.{Names}
 use Rattle.type_rules.specs.Kinds.{bool_kind}
 use Rattle.type_rules.specs.Queries.{names_of}
@@ -21,7 +21,6 @@ use Rattle.lawful.proofs.World.{World, In, seen22, true_at}
 use Rattle.lawful.proofs.Main.{typed}
 use Rattle.lawful.proofs.Places.{Lawfully, all_lawful, all_kept}
 use Rattle.lawful.proofs.TextNumbers.{decl_numbers}
-use Rattle.lawful.proofs.Texts.{formed}
 use Rattle.lawful.proofs.Inside.{inside}
 use Rattle.lawful.proofs.Behind.{decl_parts}
 use Rattle.lawful.proofs.Quiet.{all_speak}
@@ -73,6 +72,6 @@ invs_typed bytes tree text p is =
     let t = tables_of tree in
     let n = names_of tree in
     let laws = invs_there (Lawfully n) n nothing_seen 0 1 tree (all_lawful tree is.0) in
-    let numbers = invs_there (λ s. has_number s ≡ true) n nothing_seen 0 1 tree (decl_numbers Lexable (λ i h. h) n nothing_seen 0 tree (formed bytes tree text)) in
+    let numbers = invs_there (λ s. has_number s ≡ true) n nothing_seen 0 1 tree (decl_numbers Lexable (λ i h. h) n nothing_seen 0 tree (text_formed bytes tree text)) in
     pointwise_all (IsInv t) (λ (d : InvTree). Lawful n d × Numbered n d) (λ inv. is_typed p in_invariant [] inv.body) (invs_from 0 1 tree) p.invs is.1.invs
     (all_pairs (Lawful n) (Numbered n) (invs_from 0 1 tree) laws numbers) (λ d i facts made. inv_typed tree p (tied bytes tree text p is) d i facts made)

@@ -25,7 +25,6 @@ mod RootCalled
 mod Called
 mod Numbers
 mod TextNumbers
-mod Texts
 mod Listed
 mod WrittenTypes
 mod Inside

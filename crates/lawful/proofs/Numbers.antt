@@ -6,7 +6,7 @@ use Rattle.rp_grammar.specs.Bytes.{greatest}
 use Rattle.rp_grammar.specs.Terminals.{Terminal, int}
 use Rattle.rp_grammar.specs.Trees.{Ident, ExprTree, ExprForm, ExprTrees, ExprArmTree, ExprArmTrees, AccessTree, StepTree, StepTrees, ArgTrees}
 use Rattle.rp_lang.specs.Typing.{is_word}
-use Rattle.rp_ast.proofs.Formed.{FormedExpr, FormedForm, FormedChain, FormedExprs, FormedArms, FormedSteps, FormedStep, FormedArgs}
+use Rattle.rp_grammar.proofs.Formed.{FormedExpr, FormedForm, FormedChain, FormedExprs, FormedArms, FormedSteps, FormedStep, FormedArgs}
 use Rattle.type_rules.specs.declared.kind.Kind.{Kind}
 use Rattle.type_rules.specs.Names.{Name, Names}
 use Rattle.type_rules.specs.Paths.{Way}

@@ -11,8 +11,8 @@ use Rattle.rp_grammar.specs.Texts.{IsText}
 use Rattle.rp_lang.specs.Flow.{all_set}
 use Rattle.rp_lang.specs.Programs.{Proc, Prog}
 use Rattle.rp_lang.specs.WellFormed.{at_start}
-use Rattle.rp_ast.proofs.Formed.{FormedProc, FormedDecls}
-use Rattle.rp_ast.proofs.BackBytes.{Lexable}
+use Rattle.rp_grammar.proofs.Formed.{FormedProc, FormedDecls}
+use Rattle.rp_grammar.proofs.FormedTexts.{Lexable, text_formed}
 use Rattle.type_rules.specs.declared.kind.Kind.{Kind}
 use Rattle.type_rules.specs.declared.role.Role.TheVariants as role
 use Rattle.type_rules.specs.Names.{Names, param_name, param_type}
@@ -33,7 +33,6 @@ use Rattle.desugaring.specs.Programs.{ProcDecl, procs_from, IsProc, IsProgramOf}
 use Rattle.desugaring.proofs.Options.{each_there}
 use Rattle.lawful.specs.Slots.{InSlots, nothing, FlowsThrough}
 use Rattle.lawful.proofs.Places.{Lawfully, all_parts, all_lawful}
-use Rattle.lawful.proofs.Texts.{formed}
 use Rattle.lawful.proofs.Ends.{block_dies}
 use Rattle.lawful.proofs.Results.{ended, procs_there}
 use Rattle.lawful.proofs.Slotted.{Slotted, slots_bound, bound_slotted}
@@ -121,5 +120,5 @@ flows_through bytes tree text p is =
     let n = names_of tree in
     pointwise_also (IsProc t) (FlowsThrough n) (λ (d : ProcDecl). FormedProc Lexable d.tree × AllByRecursion (Lawfully n) (proc_sites n d.decl d.tree)) (procs_from 0 tree) p.procs is.1.procs
     (all_pairs (λ (d : ProcDecl). FormedProc Lexable d.tree) (λ (d : ProcDecl). AllByRecursion (Lawfully n) (proc_sites n d.decl d.tree)) (procs_from 0 tree)
-    (procs_formed 0 tree (formed bytes tree text)) (procs_there (Lawfully n) n nothing_seen 0 tree (all_lawful tree is.0)))
+    (procs_formed 0 tree (text_formed bytes tree text)) (procs_there (Lawfully n) n nothing_seen 0 tree (all_lawful tree is.0)))
     (λ d q facts made. through_body t d.decl d.at d.tree q facts made)

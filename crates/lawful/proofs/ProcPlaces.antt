@@ -4,7 +4,7 @@ use Rattle.std.specs.Prelude.{slice_get}
 use Rattle.std.specs.List.{AllByRecursion}
 use Rattle.rp_grammar.specs.Trees.{DeclForm, DeclTree}
 use Rattle.rp_grammar.specs.Texts.{IsText}
-use Rattle.rp_ast.proofs.BackBytes.{Lexable}
+use Rattle.rp_grammar.proofs.FormedTexts.{Lexable, text_formed}
 use Rattle.type_rules.specs.Names.{Names}
 use Rattle.type_rules.specs.Queries.{names_of}
 use Rattle.type_rules.specs.DeclSites.{proc_sites}
@@ -15,7 +15,6 @@ use Rattle.lawful.specs.Kept.{AllKept, has_number, may_speak}
 use Rattle.lawful.proofs.Distinct.{all_changed}
 use Rattle.lawful.proofs.Places.{Lawfully, all_lawful, all_kept}
 use Rattle.lawful.proofs.TextNumbers.{decl_numbers}
-use Rattle.lawful.proofs.Texts.{formed}
 use Rattle.lawful.proofs.Behind.{used_behind}
 use Rattle.lawful.proofs.Quiet.{all_early, all_quiet}
 use Rattle.lawful.proofs.InsideStmts.{proc_inside}
@@ -76,7 +75,7 @@ pub procs_kept : (bytes : List ℕ) (tree : List DeclTree) → IsText bytes tree
 procs_kept bytes tree text lawful =
     let n = names_of tree in
     let laws = procs_there (Lawfully n) n nothing_seen 0 tree (all_lawful tree lawful) in
-    let numbers = procs_there (λ s. has_number s ≡ true) n nothing_seen 0 tree (decl_numbers Lexable (λ i h. h) n nothing_seen 0 tree (formed bytes tree text)) in
+    let numbers = procs_there (λ s. has_number s ≡ true) n nothing_seen 0 tree (decl_numbers Lexable (λ i h. h) n nothing_seen 0 tree (text_formed bytes tree text)) in
     let facts = all_pairs (LawsOf n) (NumbersOf n) (procs_from 0 tree) laws numbers in
     let all = all_pairs (FactsOf n) (StandsIn 0 tree) (procs_from 0 tree) facts (procs_stand 0 tree) in
     all_changed (λ d. FactsOf n d × StandsIn 0 tree d) (KeptOf tree) (procs_from 0 tree) (λ d h. proc_kept tree d h.0 h.1) all

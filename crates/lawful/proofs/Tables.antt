@@ -2,8 +2,8 @@
 use Rattle.std.proofs.Common.{◌≡◌, ℕ, Bool, true, false, List, ◌∷◌, Option, Some, None, refl, subst, sym, ◌∙◌}
 use Rattle.rp_grammar.specs.Trees.{Ident, StepTrees, DeclTree}
 use Rattle.rp_grammar.specs.Texts.{IsText}
-use Rattle.rp_ast.proofs.Formed.{FormedDecls}
-use Rattle.rp_ast.proofs.BackBytes.{Lexable}
+use Rattle.rp_grammar.proofs.Formed.{FormedDecls}
+use Rattle.rp_grammar.proofs.FormedTexts.{Lexable, text_formed}
 use Rattle.rp_lang.specs.Exprs.{Ex}
 use Rattle.rp_lang.specs.Programs.{Prog}
 use Rattle.type_rules.specs.Names.{Entry, text_of, entry_named}
@@ -26,7 +26,6 @@ use Rattle.lawful.proofs.Bools.{BoolFirst, bool_is, bools_are, tx_is}
 use Rattle.lawful.proofs.Atoms.{atom_is}
 use Rattle.lawful.proofs.Called.{call_is}
 use Rattle.lawful.proofs.UsedQueries.{query_called}
-use Rattle.lawful.proofs.Texts.{formed}
 
 by_entry : (tree : List DeclTree) (p : Prog) → IsProgramOf tree p → FormedDecls Lexable tree
     → (vs : Vars) (x : Ident) (steps : StepTrees) (c : Called Ex) (o : Option Entry) → entry_named (names_of tree) (text_of x) ≡ o
@@ -67,5 +66,5 @@ tied bytes tree text p is =
       tx_args = marker.1;
       atom = atom_is t p is.1.types;
       cases = cases_are t p (may_speak tree) is.1.cons is.1.types (kinds_differ (bool_kind ∷ kinds_from (names_of tree) 0 0 tree)) (cases_differ tree is.0);
-      call = λ vs x steps c e. by_entry tree p is (formed bytes tree text) vs x steps c (entry_named (names_of tree) (text_of x)) refl e;
+      call = λ vs x steps c e. by_entry tree p is (text_formed bytes tree text) vs x steps c (entry_named (names_of tree) (text_of x)) refl e;
     }

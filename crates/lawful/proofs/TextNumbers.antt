@@ -4,7 +4,7 @@ use Rattle.rp_span.specs.declared.Span.{Span}
 use Rattle.rp_grammar.specs.Bytes.{greatest}
 use Rattle.rp_grammar.specs.Terminals.{Terminal, int}
 use Rattle.rp_grammar.specs.Trees.{Ident, TypeTree, ParamTree, CrdtTree, CrdtForm, FieldTree, FieldTrees, ExprTree, AccessTree, BlockTree, StmtTree, StmtForm, StmtTrees, ElseTree, BlockArmTree, BlockArmTrees, ConTree, QueryTree, ProcTree, DeclForm, DeclTree}
-use Rattle.rp_ast.proofs.Formed.{FormedOption, FormedAccess, FormedBlock, FormedStmts, FormedStmt, FormedStmtForm, FormedElse, FormedBlockArms, FormedDeclForm, FormedDecls}
+use Rattle.rp_grammar.proofs.Formed.{FormedOption, FormedAccess, FormedBlock, FormedStmts, FormedStmt, FormedStmtForm, FormedElse, FormedBlockArms, FormedDeclForm, FormedDecls}
 use Rattle.type_rules.specs.declared.kind.Kind.{Kind}
 use Rattle.type_rules.specs.declared.role.Role.{Role}
 use Rattle.type_rules.specs.Names.{Name, Names}

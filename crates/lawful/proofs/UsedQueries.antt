@@ -7,8 +7,8 @@ use Rattle.rp_value.specs.declared.tables.Ty.{Ty}
 use Rattle.rp_grammar.specs.Trees.{Ident, TypeTree, ParamTree, ExprTree, StepTrees, ConTree, QueryTree, ProcTree, DeclForm, DeclTree}
 use Rattle.rp_lang.specs.Exprs.{Ex}
 use Rattle.rp_lang.specs.Programs.{Prog}
-use Rattle.rp_ast.proofs.Formed.{FormedDecls}
-use Rattle.rp_ast.proofs.BackBytes.{Lexable}
+use Rattle.rp_grammar.proofs.Formed.{FormedDecls}
+use Rattle.rp_grammar.proofs.FormedTexts.{Lexable}
 use Rattle.type_rules.specs.declared.kind.Kind.{Kind}
 use Rattle.type_rules.specs.declared.role.Role.{Role}
 use Rattle.type_rules.specs.declared.role.Role.TheVariants as role

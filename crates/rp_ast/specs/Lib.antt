@@ -1,5 +1,1 @@
 pub mod View
-pub mod Printed
-pub mod Alike
-pub mod means
-pub mod rows

@@ -1,4 +1,4 @@
-//! The trees of programs, and their printed form.
+//! The trees of programs.
 #![tactic(auto)]
 
 pub mod build;
@@ -7,7 +7,6 @@ mod decl;
 mod expr;
 mod ident;
 pub mod laws;
-mod printer;
 mod stmt;
 mod ty;
 
@@ -15,7 +14,6 @@ pub use crdt::{CrdtForm, CrdtNode, FieldNode};
 pub use decl::{Ast, ConNode, Decl, DeclForm, ProcNode, QueryNode};
 pub use expr::{AccessNode, AccessStep, ExprArm, ExprForm, ExprNode, PatternNode};
 pub use ident::Ident;
-pub use printer::print;
 pub use rp_grammar::{CallWord, CompareOp};
 pub use stmt::{Block, BlockArm, ElseNode, StmtForm, StmtNode};
 pub use ty::{Param, TypeForm, TypeNode};

@@ -16,3 +16,6 @@ pub mod Toks
 pub mod Computed
 pub mod Rows
 pub mod Extents
+pub mod Formed
+pub mod TextTrees
+pub mod FormedTexts

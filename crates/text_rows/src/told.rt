@@ -4,9 +4,10 @@ ghost use Rattle.rp_grammar.specs.Lexed.{Lexed};
 
 use crate::names::{kind_name, symbol_name, word_name};
 use crate::row::Row;
-use rp_ast::{Ast, print};
+use rp_ast::Ast;
 use rp_lexer::{LexErr, Token, lex, symbol_of, word_of};
 use rp_parser::{ParseErr, parse};
+use rp_print::print;
 use rp_value::{List, Memory};
 use std::alloc::Global;
 

@@ -1,5 +1,0 @@
-use Rattle.rp_ast.proofs.ReadBack.{reads_back}
-use Rattle.rp_ast.proofs.laws.printed_form_reads_back.Goals as goal
-
-pub returns : goal.returns
-returns c = reads_back

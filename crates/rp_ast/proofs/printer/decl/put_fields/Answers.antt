@@ -1,7 +1,0 @@
-use Rattle.std.proofs.Common.{arith}
-use Rattle.rp_ast.proofs.Appends.{appends}
-use Rattle.rp_ast.proofs.Nonempty.{some_fields}
-use Rattle.rp_ast.proofs.printer.decl.put_fields.Goals as goal
-
-pub returns : goal.returns
-returns c = let e = some_fields c.args.fields.now c.if-is_empty.ensures in grind (arith, appends, e)

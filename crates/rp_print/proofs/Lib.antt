@@ -1,0 +1,11 @@
+mod Appends
+mod Nonempty
+mod Spells
+mod BackTypes
+mod BackExprs
+mod BackStmts
+mod BackDecls
+mod BackBytes
+mod PrintedTerminals
+mod ReadBack
+mod Rows

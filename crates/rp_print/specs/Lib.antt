@@ -1,0 +1,4 @@
+pub mod Printed
+pub mod Alike
+pub mod means
+pub mod rows
