@@ -1,14 +1,11 @@
 //! Formulas.
-//!
-//! A formula that is kept while more is found stands in a box or in a list: to drop a bare one
-//! takes code for each of its variants.
 
 ghost use Rattle.std.specs.Prelude.{◌≡◌, Some, None, IfOk, IsErrOf};
 ghost use Rattle.rp_ast.specs.View as tree;
 ghost use Rattle.rp_lang.specs.Views.{formula_view, formulas_view};
 ghost use Rattle.rp_types.specs.means.Found as spec;
 
-use crate::nodes::{conjunction, disjunction, implication, negation, truth};
+use crate::nodes::{conjunction, disjunction, implication, negation, push, truth};
 use crate::scope::Scope;
 use crate::stop::Stop;
 use rp_ast::{ExprForm, ExprNode};
@@ -19,7 +16,7 @@ use rp_value::{Boxed, List};
 impl<'a> Scope<'a> {
     /// The formula of an expression.
     #[cycle(formulas)]
-    pub(crate) fn formula(&self, e: &ExprNode) -> Result<Formula, Stop>
+    pub(crate) fn formula(&self, e: &ExprNode) -> Result<Boxed<Formula>, Stop>
         ensures found { IfOk result
             (λ f. spec.formula_for (spec.scope_view self.now.params.now) (tree.expr_view e.now)
             ≡ Some (formula_view f)) }
@@ -28,17 +25,14 @@ impl<'a> Scope<'a> {
     {
         match &e.what {
             ExprForm::Implies(left, right) => {
-                let left = Boxed::new(self.alloc, self.formula(left.get())?)?;
-                let right = Boxed::new(self.alloc, self.formula(right.get())?)?;
-                Ok(implication(left, right))
+                let left = self.formula(left.get())?;
+                let right = self.formula(right.get())?;
+                Ok(implication(self.alloc, left, right)?)
             }
-            ExprForm::Or(parts) => Ok(disjunction(self.formulas(parts.as_slice())?)),
-            ExprForm::And(parts) => Ok(conjunction(self.formulas(parts.as_slice())?)),
-            ExprForm::Not(inside) => Ok(negation(Boxed::new(
-                self.alloc,
-                self.formula(inside.get())?,
-            )?)),
-            ExprForm::Truth(value) => Ok(truth(self.alloc, *value)),
+            ExprForm::Or(parts) => Ok(disjunction(self.alloc, self.formulas(parts.as_slice())?)?),
+            ExprForm::And(parts) => Ok(conjunction(self.alloc, self.formulas(parts.as_slice())?)?),
+            ExprForm::Not(inside) => Ok(negation(self.alloc, self.formula(inside.get())?)?),
+            ExprForm::Truth(value) => Ok(truth(self.alloc, *value)?),
             ExprForm::Access(access) => self.variable(access),
             ExprForm::Forall(_, _)
             | ExprForm::Exists(_, _)
@@ -67,7 +61,7 @@ impl<'a> Scope<'a> {
     {
         let mut found = List::new(self.alloc);
         for part in parts {
-            found.push(self.formula(part)?)?;
+            push(&mut found, self.formula(part)?)?;
         }
         Ok(found)
     }

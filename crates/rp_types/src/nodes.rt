@@ -1,6 +1,8 @@
 //! Formulas and statements of parts.
+//!
+//! Each is handed up in a box: where a bare one is held, the ways out are written for each of its variants.
 
-ghost use Rattle.std.specs.Prelude.{◌≡◌};
+ghost use Rattle.std.specs.Prelude.{◌≡◌, ◌∷◌, [], ◌++◌, IfOk, OnOk};
 ghost use Rattle.rp_lang.specs.Exprs.{Slot};
 ghost use Rattle.rp_lang.specs.Formulas as fo;
 ghost use Rattle.rp_lang.specs.Stmts as st;
@@ -9,65 +11,79 @@ ghost use Rattle.rp_types.specs.Resolution.{truth_of};
 
 use rp_lang::{Expr, Formula, Stmt, StmtKind};
 use rp_span::Span;
-use rp_value::{Boxed, List};
+use rp_value::{Boxed, List, Memory};
 use std::alloc::Global;
 
-pub(crate) fn truth(alloc: Global, value: bool) -> Formula
-    ensures { formula_view result ≡ fo.Holds (truth_of value) }
+/// Puts what the box holds at the end of the list.
+pub(crate) fn push<T: Drop>(list: &mut List<T>, item: Boxed<T>) -> Result<(), Memory>
+    ensures { OnOk result (list.new ≡ list.old ++ item ∷ []) }
 {
-    Formula::Holds(Expr::Con(u32::from(value), List::new(alloc)))
+    list.push(item.into_inner())
 }
 
-pub(crate) fn variable(slot: u32) -> Formula
-    ensures { formula_view result ≡ fo.Holds (Slot slot) }
+pub(crate) fn truth(alloc: Global, value: bool) -> Result<Boxed<Formula>, Memory>
+    ensures { IfOk result (λ f. formula_view f ≡ fo.Holds (truth_of value)) }
 {
-    Formula::Holds(Expr::Slot(slot))
+    let con = Expr::Con(u32::from(value), List::new(alloc));
+    Boxed::new(alloc, Formula::Holds(con))
 }
 
-pub(crate) fn negation(inside: Boxed<Formula>) -> Formula
-    ensures { formula_view result ≡ fo.Not (formula_view inside) }
+pub(crate) fn variable(alloc: Global, slot: u32) -> Result<Boxed<Formula>, Memory>
+    ensures { IfOk result (λ f. formula_view f ≡ fo.Holds (Slot slot)) }
 {
-    Formula::Not(inside)
+    Boxed::new(alloc, Formula::Holds(Expr::Slot(slot)))
 }
 
-pub(crate) fn implication(left: Boxed<Formula>, right: Boxed<Formula>) -> Formula
-    ensures { formula_view result ≡ fo.Implies (formula_view left) (formula_view right) }
+pub(crate) fn negation(alloc: Global, inside: Boxed<Formula>) -> Result<Boxed<Formula>, Memory>
+    ensures { IfOk result (λ f. formula_view f ≡ fo.Not (formula_view inside)) }
 {
-    Formula::Implies(left, right)
+    Boxed::new(alloc, Formula::Not(inside))
 }
 
-pub(crate) fn conjunction(parts: List<Formula>) -> Formula
-    ensures { formula_view result ≡ fo.And (formulas_view parts) }
+pub(crate) fn implication(
+    alloc: Global,
+    left: Boxed<Formula>,
+    right: Boxed<Formula>,
+) -> Result<Boxed<Formula>, Memory>
+    ensures { IfOk result (λ f. formula_view f
+        ≡ fo.Implies (formula_view left) (formula_view right)) }
 {
-    Formula::And(parts)
+    Boxed::new(alloc, Formula::Implies(left, right))
 }
 
-pub(crate) fn disjunction(parts: List<Formula>) -> Formula
-    ensures { formula_view result ≡ fo.Or (formulas_view parts) }
+pub(crate) fn conjunction(alloc: Global, parts: List<Formula>) -> Result<Boxed<Formula>, Memory>
+    ensures { IfOk result (λ f. formula_view f ≡ fo.And (formulas_view parts)) }
 {
-    Formula::Or(parts)
+    Boxed::new(alloc, Formula::And(parts))
 }
 
-pub(crate) fn assertion(at: Span, condition: Boxed<Formula>) -> Stmt
-    ensures { stmt_view result ≡ st.Assert at (formula_view condition) }
+pub(crate) fn disjunction(alloc: Global, parts: List<Formula>) -> Result<Boxed<Formula>, Memory>
+    ensures { IfOk result (λ f. formula_view f ≡ fo.Or (formulas_view parts)) }
 {
-    Stmt {
-        at,
-        what: StmtKind::Assert(condition.into_inner()),
-    }
+    Boxed::new(alloc, Formula::Or(parts))
+}
+
+pub(crate) fn assertion(
+    alloc: Global,
+    at: Span,
+    condition: Boxed<Formula>,
+) -> Result<Boxed<Stmt>, Memory>
+    ensures { IfOk result (λ s. stmt_view s ≡ st.Assert at (formula_view condition)) }
+{
+    let what = StmtKind::Assert(condition.into_inner());
+    Boxed::new(alloc, Stmt { at, what })
 }
 
 pub(crate) fn branching(
+    alloc: Global,
     at: Span,
     condition: Boxed<Formula>,
     body: List<Stmt>,
     otherwise: List<Stmt>,
-) -> Stmt
-    ensures { stmt_view result
-        ≡ st.If at (formula_view condition) (stmts_view body) (stmts_view otherwise) }
+) -> Result<Boxed<Stmt>, Memory>
+    ensures { IfOk result (λ s. stmt_view s
+        ≡ st.If at (formula_view condition) (stmts_view body) (stmts_view otherwise)) }
 {
-    Stmt {
-        at,
-        what: StmtKind::If(condition.into_inner(), body, otherwise),
-    }
+    let what = StmtKind::If(condition.into_inner(), body, otherwise);
+    Boxed::new(alloc, Stmt { at, what })
 }

@@ -8,7 +8,7 @@ use crate::nodes::variable;
 use crate::stop::Stop;
 use rp_ast::{AccessNode, Param};
 use rp_lang::Formula;
-use rp_value::List;
+use rp_value::{Boxed, List};
 use std::alloc::Global;
 
 /// What the body of a procedure is found with: its parameters are its variables, by slot.
@@ -33,7 +33,7 @@ impl<'a> Scope<'a> {
 
     /// The variable that is accessed, with nothing behind its name.
     #[tactic(auto, using(rp_ast::proofs::ExprViews::expr_views))]
-    pub(crate) fn variable(&self, access: &AccessNode) -> Result<Formula, Stop>
+    pub(crate) fn variable(&self, access: &AccessNode) -> Result<Boxed<Formula>, Stop>
         ensures found { IfOk result
             (λ f. spec.access_for (spec.scope_view self.now.params.now) (tree.access_view access.now)
             ≡ Some (formula_view f)) }
@@ -45,7 +45,7 @@ impl<'a> Scope<'a> {
             return Err(Stop::NotFirst);
         }
         match self.slot(access.root.text.as_slice()) {
-            Some(slot) => Ok(variable(slot)),
+            Some(slot) => Ok(variable(self.alloc, slot)?),
             None => Err(Stop::NotFirst),
         }
     }

@@ -5,7 +5,7 @@ ghost use Rattle.rp_ast.specs.View as tree;
 ghost use Rattle.rp_lang.specs.Views.{stmt_view, stmts_view};
 ghost use Rattle.rp_types.specs.means.Found as spec;
 
-use crate::nodes::{assertion, branching};
+use crate::nodes::{assertion, branching, push};
 use crate::scope::Scope;
 use crate::stop::Stop;
 use rp_ast::{Block, ElseNode, StmtForm, StmtNode};
@@ -15,7 +15,7 @@ use rp_value::{Boxed, List};
 #[tactic(auto, using(rp_ast::proofs::StmtViews::stmt_views))]
 impl<'a> Scope<'a> {
     #[cycle(stmts)]
-    fn stmt(&self, stmt: &StmtNode) -> Result<Stmt, Stop>
+    fn stmt(&self, stmt: &StmtNode) -> Result<Boxed<Stmt>, Stop>
         ensures found { IfOk result
             (λ st. spec.stmt_for (spec.scope_view self.now.params.now) (tree.stmt_view stmt.now)
             ≡ Some (stmt_view st)) }
@@ -24,14 +24,14 @@ impl<'a> Scope<'a> {
     {
         match &stmt.what {
             StmtForm::Assert(condition) => {
-                let condition = Boxed::new(self.alloc, self.formula(condition)?)?;
-                Ok(assertion(stmt.span, condition))
+                let condition = self.formula(condition)?;
+                Ok(assertion(self.alloc, stmt.span, condition)?)
             }
             StmtForm::If(condition, body, otherwise) => {
-                let condition = Boxed::new(self.alloc, self.formula(condition)?)?;
+                let condition = self.formula(condition)?;
                 let body = self.block(body)?;
                 let otherwise = self.otherwise(otherwise)?;
-                Ok(branching(stmt.span, condition, body, otherwise))
+                Ok(branching(self.alloc, stmt.span, condition, body, otherwise)?)
             }
             StmtForm::Var(_, _, _)
             | StmtForm::New(_, _)
@@ -67,7 +67,7 @@ impl<'a> Scope<'a> {
     {
         let mut found = List::new(self.alloc);
         for stmt in stmts {
-            found.push(self.stmt(stmt)?)?;
+            push(&mut found, self.stmt(stmt)?)?;
         }
         Ok(found)
     }
@@ -89,7 +89,7 @@ impl<'a> Scope<'a> {
             Some(ElseNode::Block(block)) => self.block(block),
             Some(ElseNode::If(stmt)) => {
                 let mut found = List::new(self.alloc);
-                found.push(self.stmt(stmt.get())?)?;
+                push(&mut found, self.stmt(stmt.get())?)?;
                 Ok(found)
             }
         }

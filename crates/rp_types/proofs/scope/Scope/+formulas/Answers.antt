@@ -13,8 +13,8 @@ formulas-loop-part-preserved t c =
     let found = c.loop-part.found in
     let formula = c.in_ok-formula.field-0 in
     one_more also_fo (λ e. spec.formula_for scope (tree.expr_view e)) (λ es. spec.formulas_for scope (tree.exprs_view es)) (λ e es. refl) (spec.formulas_for scope (tree.exprs_view parts)) parts c.loop-part.part-index c.part-item.result
-    (map formula_view found) (map formula_view c.push.new.self) (formula_view formula) c.loop-part-test.true c.part-item.is c.in_ok-formula.ensures.found
-    (pushed_map formula_view found c.push.new.self formula c.in_ok-push.ensures.ok) c.loop-part.invariant
+    (map formula_view found) (map formula_view c.push.new.list) (formula_view formula) c.loop-part-test.true c.part-item.is c.in_ok-formula.ensures.found
+    (pushed_map formula_view found c.push.new.list formula c.in_ok-push.ensures) c.loop-part.invariant
 
 pub formulas-returns-clause-found : goal.formulas-returns-clause-found
 formulas-returns-clause-found t c =

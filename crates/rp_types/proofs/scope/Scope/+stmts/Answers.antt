@@ -13,8 +13,8 @@ stmts-loop-stmt-preserved t c =
     let found = c.loop-stmt.found in
     let stmt = c.in_ok-stmt.field-0 in
     one_more also_st (λ s. spec.stmt_for scope (tree.stmt_view s)) (λ ss. spec.stmts_for scope (tree.stmts_view ss)) (λ s ss. refl) (spec.stmts_for scope (tree.stmts_view stmts)) stmts c.loop-stmt.stmt-index c.stmt-item.result
-    (map stmt_view found) (map stmt_view c.push.new.self) (stmt_view stmt) c.loop-stmt-test.true c.stmt-item.is c.in_ok-stmt.ensures.found
-    (pushed_map stmt_view found c.push.new.self stmt c.in_ok-push.ensures.ok) c.loop-stmt.invariant
+    (map stmt_view found) (map stmt_view c.push.new.list) (stmt_view stmt) c.loop-stmt-test.true c.stmt-item.is c.in_ok-stmt.ensures.found
+    (pushed_map stmt_view found c.push.new.list stmt c.in_ok-push.ensures) c.loop-stmt.invariant
 
 pub stmts-returns-clause-found : goal.stmts-returns-clause-found
 stmts-returns-clause-found t c =
