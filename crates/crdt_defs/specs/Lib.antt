@@ -11,4 +11,5 @@ pub mod Queries
 pub mod SameValues
 pub mod Snapshots
 pub mod Truths
+pub mod means
 pub mod rows

@@ -8,7 +8,7 @@ use Rattle.crdt_defs.specs.Counting.{any_below}
 use Rattle.crdt_defs.specs.Histories.{meets, call_is, same_tx}
 use Rattle.crdt_defs.specs.Snapshots.{bit, IsSnapshot}
 use Rattle.crdt_lib.specs.means.Blocks.{blocks, is_seen, in_block, is_marked, splits, splits_one}
-use Rattle.crdt_lib.proofs.BelowLemmas.{any_found, none_below}
+use Rattle.crdt_defs.proofs.BelowLemmas.{any_found, none_below}
 use Rattle.crdt_lib.proofs.HistoryLemmas.{no_call_past}
 
 within : (h : List Call) (test : Call → Bool) (k : ℕ) → call_is h test k ≡ true → k < length h

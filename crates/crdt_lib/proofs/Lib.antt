@@ -1,11 +1,9 @@
 pub mod AmountLemmas
 pub mod AtomLemmas
-pub mod BelowLemmas
 pub mod BitLemmas
 pub mod BlockLemmas
 pub mod HistoryLemmas
 pub mod IntegerLemmas
 pub mod ListedLemmas
 pub mod MemberLemmas
-pub mod NewestLemmas
 pub mod PickedLemmas

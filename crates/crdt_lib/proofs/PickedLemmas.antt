@@ -12,7 +12,7 @@ use Rattle.crdt_defs.specs.Calls.{Call, calls_view}
 use Rattle.crdt_defs.specs.Histories.{before, some_call}
 use Rattle.crdt_defs.specs.Meaning.{among, is_before_one}
 use Rattle.crdt_lib.specs.means.Picked.{listed}
-use Rattle.crdt_lib.proofs.BelowLemmas.{any_found, none_below}
+use Rattle.crdt_defs.proofs.BelowLemmas.{any_found, none_below}
 use Rattle.crdt_lib.proofs.HistoryLemmas.{seen_length, no_call_past}
 
 -- # How a list is gathered

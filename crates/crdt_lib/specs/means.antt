@@ -1,5 +1,4 @@
 -- What only proofs and private contracts cite. No public clause rests on these.
 pub mod Blocks
 pub mod Members
-pub mod Newest
 pub mod Picked

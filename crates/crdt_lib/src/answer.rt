@@ -6,7 +6,7 @@ ghost use Rattle.crdt_defs.specs.Calls.{call_view, calls_view};
 ghost use Rattle.crdt_defs.specs.Histories.{some_call};
 ghost use Rattle.crdt_defs.specs.Snapshots.{bit};
 ghost use Rattle.crdt_defs.specs.Doing as spec;
-ghost use Rattle.crdt_lib.specs.means.Newest.{better};
+ghost use Rattle.crdt_defs.specs.means.Newest.{better};
 ghost use Rattle.crdt_defs.specs.Meaning.{among, at_key, one_stays, contains_add_wins, contains_remove_wins, contains_value, stamp_of, latest, counter_sum};
 ghost use Rattle.crdt_lib.specs.means.Picked.{listed};
 ghost use Rattle.crdt_defs.specs.Queries.{answer_at, at_call};

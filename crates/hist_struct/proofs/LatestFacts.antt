@@ -7,7 +7,7 @@ use Rattle.crdt_defs.specs.Doing.{is_of}
 use Rattle.crdt_defs.specs.Histories.{call_is}
 use Rattle.crdt_defs.specs.Meaning.{among, stamp_of, latest}
 use Rattle.crdt_defs.proofs.GotLemmas.{met-call}
-use Rattle.crdt_lib.proofs.NewestLemmas.{IsBest, newest_best, newest_is_latest}
+use Rattle.crdt_defs.proofs.NewestLemmas.{IsBest, newest_best, newest_is_latest}
 use Rattle.event_machine.specs.Machine.{Tx}
 use Rattle.event_machine.specs.WellFormed.{IsCausal}
 use Rattle.event_machine.proofs.PlaceLemmas.{same-or}

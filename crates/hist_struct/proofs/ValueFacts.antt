@@ -25,7 +25,7 @@ use Rattle.crdt_defs.specs.Meaning.{among, is_older, latest, counter_sum}
 use Rattle.crdt_defs.specs.Queries.{at_call, ask, answer_by}
 use Rattle.crdt_defs.specs.Truths.{found_val, answer_val}
 use Rattle.crdt_defs.specs.Fitting.{fits, all_fit}
-use Rattle.crdt_lib.proofs.NewestLemmas.{first_none}
+use Rattle.crdt_defs.proofs.NewestLemmas.{first_none}
 use Rattle.event_machine.specs.WellFormed.{At}
 use Rattle.event_machine.proofs.ProgramFits.{each}
 use Rattle.event_machine.proofs.AnswerFits.{QueryEnds, query-leads, counter-is, register-is}

@@ -4,7 +4,7 @@ use Rattle.crdt_defs.specs.Calls.{calls_view}
 use Rattle.crdt_defs.specs.Snapshots.{bit}
 use Rattle.crdt_defs.specs.Doing as spec
 use Rattle.crdt_defs.specs.Meaning.{among, stamp_of}
-use Rattle.crdt_lib.proofs.NewestLemmas.{newest_below, newest_is_latest}
+use Rattle.crdt_defs.proofs.NewestLemmas.{newest_below, newest_is_latest}
 use Rattle.crdt_lib.proofs.answer.newest.Goals as goal
 
 pub returns : goal.returns

@@ -1,6 +1,6 @@
 use Rattle.std.proofs.Common.{◌<◌, length, sym, arith}
 use Rattle.crdt_defs.specs.Calls.{calls_view}
-use Rattle.crdt_lib.proofs.BelowLemmas.{any_found}
+use Rattle.crdt_defs.proofs.BelowLemmas.{any_found}
 use Rattle.crdt_lib.proofs.picked.any_stays.Goals as goal
 
 pub returns-then-stays : goal.returns-then-stays

@@ -1,6 +1,6 @@
 use Rattle.std.proofs.Common.{◌<◌, length, sym, arith}
 use Rattle.crdt_defs.specs.Calls.{calls_view}
-use Rattle.crdt_lib.proofs.BelowLemmas.{any_found}
+use Rattle.crdt_defs.proofs.BelowLemmas.{any_found}
 use Rattle.crdt_lib.proofs.snapshot.misses_one.Goals as goal
 
 pub returns-then-is_missed : goal.returns-then-is_missed

@@ -1,6 +1,6 @@
 use Rattle.std.proofs.Common.{◌≡◌, ◌+◌, ◌*◌, ◌/◌, ◌%◌, ◌<◌, sym, arith, div-add-mod'}
 use Rattle.crdt_lib.specs.means.Blocks.{blocks}
-use Rattle.crdt_lib.proofs.BelowLemmas.{any_found}
+use Rattle.crdt_defs.proofs.BelowLemmas.{any_found}
 use Rattle.crdt_lib.proofs.snapshot.splits_one.Goals as goal
 
 pub splits_in-requires : goal.splits_in-requires

@@ -7,8 +7,8 @@ use Rattle.crdt_defs.specs.Calls.{Call}
 use Rattle.crdt_defs.specs.Counting.{any_below, first_below, or_this}
 use Rattle.crdt_defs.specs.Doing.{is_of}
 use Rattle.crdt_defs.specs.Meaning.{among, stamp_of, latest}
-use Rattle.crdt_lib.specs.means.Newest.{better}
-use Rattle.crdt_lib.proofs.BelowLemmas.{any_found, none_below}
+use Rattle.crdt_defs.specs.means.Newest.{better}
+use Rattle.crdt_defs.proofs.BelowLemmas.{any_found, none_below}
 
 abbrev pub newest_below : (ℕ → Bool) → (ℕ → ℕ) → ℕ → Option ℕ
 newest_below A st zero = None
