@@ -121,7 +121,7 @@ fn newest_of(
 }
 
 /// The assign with the greatest stamp.
-#[tactic(auto, using(crate::proofs::NewestLemmas::newest_is_latest, crate::proofs::NewestLemmas::newest_more))]
+#[tactic(auto, using(crdt_defs::proofs::NewestLemmas::newest_is_latest, crdt_defs::proofs::NewestLemmas::newest_more))]
 fn newest(h: &History, ops: &[OpDecl], counted: &[bool]) -> Option<u32>
     requires { length counted.now ≡ length h.now }
     ensures { result ≡ latest ops.now (calls_view h.now) (bit counted.now) }
@@ -214,7 +214,7 @@ fn plus(sum: i128, more: i128) -> i128
 }
 
 /// The sum of the amounts.
-#[tactic(auto, using(crate::proofs::BelowLemmas::sum_more))]
+#[tactic(auto, using(crdt_defs::proofs::BelowLemmas::sum_more))]
 fn total(h: &History, ops: &[OpDecl], counted: &[bool]) -> i128
     requires { length counted.now ≡ length h.now }
     ensures { result ≡ counter_sum ops.now (calls_view h.now) (bit counted.now) }

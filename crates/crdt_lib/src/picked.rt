@@ -104,7 +104,7 @@ fn stays(
 }
 
 /// Whether some call of `counted` that does this with x is before no call of the list.
-#[tactic(auto, using(crate::proofs::BelowLemmas::any_more))]
+#[tactic(auto, using(crdt_defs::proofs::BelowLemmas::any_more))]
 pub(crate) fn any_stays(
     h: &History,
     ops: &[OpDecl],

@@ -210,7 +210,7 @@ fn is_marked(row: &[bool], c: u32) -> bool
 }
 
 /// Whether some call is marked.
-#[tactic(auto, using(crate::proofs::BelowLemmas::any_more))]
+#[tactic(auto, using(crdt_defs::proofs::BelowLemmas::any_more))]
 pub(crate) fn any(h: &History, row: &[bool]) -> bool
     requires { length row.now ≡ length h.now }
     ensures { result ≡ some_call (calls_view h.now) (bit row.now) }

@@ -83,7 +83,7 @@ fn sees_all<V: View>(view: &V, calls: &[u32]) -> bool
 }
 
 /// Whether some transaction below the bound is visible in part.
-#[tactic(auto, using(crate::proofs::BelowLemmas::any_more))]
+#[tactic(auto, using(crdt_defs::proofs::BelowLemmas::any_more))]
 fn splits_one<V: View>(h: &History, view: &V, bound: usize) -> bool
     ensures { result ≡ spec.splits_one (calls_view h.now) (set.contains (V.calls view.now)) bound }
 {
@@ -131,7 +131,7 @@ fn mark(seen: &mut [bool], base: usize, tx: usize)
 }
 
 /// Whether some call isn't visible, and is of a marked transaction.
-#[tactic(auto, using(crate::proofs::BelowLemmas::any_more))]
+#[tactic(auto, using(crdt_defs::proofs::BelowLemmas::any_more))]
 fn misses_one<V: View>(h: &History, view: &V, base: usize, seen: &[bool]) -> bool
     requires block { length seen.now ≡ 16384 }
     ensures { result ≡ any_below (λ d. call_is (calls_view h.now) (λ call. spec.is_marked base seen.now call.tx) d && not (set.contains (V.calls view.now) d)) (length (calls_view h.now)) }
