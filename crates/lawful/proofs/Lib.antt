@@ -37,6 +37,10 @@ mod Results
 mod SlotLaws
 mod Slotted
 mod Flows
+mod StmtRows
+mod StmtFrames
+mod StmtForms
+mod StmtTypes
 mod ProcFlows
 mod Invariants
 mod Within
