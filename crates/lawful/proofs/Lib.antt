@@ -46,6 +46,7 @@ mod Invariants
 mod Within
 mod InsideStmts
 mod ProcPlaces
+mod ProcTypes
 mod Crdts
 mod ProcHeads
 mod Members

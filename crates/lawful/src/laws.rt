@@ -10,7 +10,7 @@ ghost use Rattle.rp_lang.specs.Exprs.{Ex};
 ghost use Rattle.rp_lang.specs.Formulas.{Arms};
 ghost use Rattle.rp_lang.specs.Programs.{Inv, Proc, Prog};
 ghost use Rattle.rp_lang.specs.Sizes.{sts_count};
-ghost use Rattle.rp_lang.specs.WellFormed.{are_invs, are_roots, begins, returns_a_value};
+ghost use Rattle.rp_lang.specs.WellFormed.{are_invs, are_roots, begins, has_body, returns_a_value};
 ghost use Rattle.rp_lang.specs.Types.{bool_ty, datatype_of, fields_of, has_bool};
 ghost use Rattle.rp_lang.specs.Typing.{Frame, are_cases, arm_cons, in_invariant, is_range, is_typed, op_args};
 ghost use Rattle.type_rules.specs.declared.kind.Kind.{Kind as TheKind};
@@ -131,6 +131,12 @@ pub fn invariants_are_typed()
 pub fn invariants_are_well_formed()
     ensures { (bytes : List ℕ) (tree : List DeclTree) → IsText bytes tree → (p : Prog) → HasProgram tree p
         → are_invs p ≡ true }
+{}
+
+/// The statements of a lawful text's procedures are well typed in its program, where it passes no limit.
+pub fn bodies_are_typed()
+    ensures { (bytes : List ℕ) (tree : List DeclTree) → IsText bytes tree → (p : Prog) → HasProgram tree p
+        → list_all (has_body p) p.procs ≡ true }
 {}
 
 /// At each place of a procedure of a lawful text no rule is broken, its number fits, and a use is of
