@@ -47,6 +47,8 @@ mod Within
 mod InsideStmts
 mod ProcPlaces
 mod ProcTypes
+mod Speaking
+mod Ordinary
 mod Crdts
 mod ProcHeads
 mod Members
