@@ -187,7 +187,7 @@ arms_cover t p k cs n is xs found all differ every =
 abbrev pub CasesDiffer : Names → Type 0
 CasesDiffer n = (k : Kind) (cs : List Case) → cases_of n k ≡ Some cs → IsDistinct flipped (map case_name cs)
 
-there_are_cases : (a : Bool) (o : Option (List Case)) → a ≡ false → (a || is_some o) ≡ true → (cs : List Case) × (o ≡ Some cs)
+pub there_are_cases : (a : Bool) (o : Option (List Case)) → a ≡ false → (a || is_some o) ≡ true → (cs : List Case) × (o ≡ Some cs)
 there_are_cases true o e h = absurd cc
 there_are_cases false None e h = absurd cc
 there_are_cases false (Some cs) e h = (cs, refl)

@@ -49,6 +49,8 @@ mod ProcPlaces
 mod ProcTypes
 mod Speaking
 mod Ordinary
+mod DataFields
+mod SlotTypes
 mod Crdts
 mod ProcHeads
 mod Members
