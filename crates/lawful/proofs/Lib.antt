@@ -51,6 +51,7 @@ mod Speaking
 mod Ordinary
 mod DataFields
 mod SlotTypes
+mod Procedures
 mod Crdts
 mod ProcHeads
 mod Members

@@ -139,8 +139,7 @@ all_brought t front (k ∷ ks) tys slots are whole =
     both_there (λ z. slots ≡ front ++ z → Brought t slots (length front) (k ∷ ks)) ◌∷◌ (ty_of t k) (each (ty_of t) ks) tys are
     (λ of ofs i j is.
     let further : slots ≡ (front ++ of ∷ []) ++ ofs = is ∙ sym (append_assoc front (of ∷ []) ofs) in
-    let long : length (front ++ of ∷ []) ≡ length front + 1 = length-append front (of ∷ []) in
-    (
+    let long : length (front ++ of ∷ []) ≡ length front + 1 = length-append front (of ∷ []) in (
       (of, ap (λ z. slice_get z (length front)) is ∙ front_at front ofs of, i),
       subst (λ m. Brought t slots m ks) long (all_brought t (front ++ of ∷ []) ks ofs slots j further),
     ))
@@ -189,7 +188,7 @@ body_is t w decl at (ProcTree.proc x params result body) q formed laws kept is s
     let size : length ks ≡ length params = length-map params (λ (z : ParamTree). kind_of t.names (param_type z)) in
     let long : 0 + length ks ≡ length params = omega (arith, size) in
     let start : At t w (body_place n (record { decl = decl; at = at; tree = ProcTree.proc x params result body })) (frame_for n decl result) g
-        (slotted [] 0 xs ks) (length params) (at_start q).set (at_start q).fixed = record {
+    (slotted [] 0 xs ks) (length params) (at_start q).set (at_start q).fixed = record {
       here = at_first t params (length q.params) (params_long t params q.params is.params);
       typed = bound_typed t w.slots 0 [] xs ks (subst (Brought t w.slots 0) (sym (params_kinds n params)) parts.0) tt;
       inside = refl;

@@ -60,7 +60,7 @@ abbrev pub AllOrdinary : Tables → Prog → List Kind → Type 0
 AllOrdinary t p ks = AllByRecursion (IsOrdinary t p) ks
 
 -- what the tables give
-record Tabled (t : Tables) (p : Prog) : Type 0 where
+pub record Tabled (t : Tables) (p : Prog) : Type 0 where
   pub types : p.types ≡ type_table t
   pub fields : (con : ℕ) → are_ordinary p.types (fields_of p.cons con) ≡ true
   pub arm : (k : Kind) (q : PatternTree) (con : ℕ) → arm_number t k q ≡ Some con
@@ -68,7 +68,7 @@ record Tabled (t : Tables) (p : Prog) : Type 0 where
   pub arm_many : (k : Kind) (q : PatternTree) (con : ℕ) → arm_number t k q ≡ Some con
       → length (pattern_kinds t.names k (pattern_name q)) ≡ length (pattern_vars q)
 
-written_ordinary : (t : Tables) (p : Prog) → p.types ≡ type_table t → (decl : ℕ) (ty : TypeTree) → Lawfully t.names (Site.written decl role.Variable ty)
+pub written_ordinary : (t : Tables) (p : Prog) → p.types ≡ type_table t → (decl : ℕ) (ty : TypeTree) → Lawfully t.names (Site.written decl role.Variable ty)
     → IsOrdinary t p (kind_of t.names ty)
 written_ordinary t p types decl ty law of is =
     let k = kind_of t.names ty in
@@ -95,7 +95,7 @@ slots_are [] (k ∷ ks) long = absurd (omega (arith, long))
 slots_are (x ∷ xs) [] long = absurd (omega (arith, long))
 slots_are (x ∷ xs) (k ∷ ks) long = ap (λ z. k ∷ z) (slots_are xs ks (omega (arith, long)))
 
-abbrev Results : Tables → Prog → Place → Type 0
+abbrev pub Results : Tables → Prog → Place → Type 0
 Results t p place = (k : Kind) → place.result ≡ Some k → IsOrdinary t p k
 
 returned : (t : Tables) (p : Prog) (b : ℕ) (vs : Vars) (next : ℕ) (at : Span) (k : Kind) (e : ExprTree) (sts : Sts) (ks : List Kind)
@@ -130,12 +130,13 @@ mutual
   stmt_slots t q is b p res vs next s sts ks (Runs.branches_apart {e = e} {then_ = then_} {other = other} {first = first} {second = second} {ks = ks_} {js = js} m h run else_) f g last formed laws set fixed here =
       let n = t.names in
       let outer = all_parts (Lawfully n) (expr_sites n (scope_in f g) bool_whole e ++ block_sites n f g then_) (else_sites n f g other) laws in
-      let inner = all_parts (Lawfully n) (expr_sites n (scope_in f g) bool_whole e) (block_sites n f g then_) outer.0 in
-      ((λ of e_. kind_ordinary t q is.types base.Bool 0 of refl e_),
-      all_both (IsOrdinary t q) ks_ js
-      (block_slots t q is b p res vs (next + 1) then_ first ks_ run f g formed.1 inner.1 set fixed (here_later set fixed g vs next (next + 1) (omega arith) here))
-      (else_slots t q is b p res vs (next + 1 + length ks_) other second js else_ f g formed.2 outer.1 set fixed
-      (here_later set fixed g vs next (next + 1 + length ks_) (omega arith) here)))
+      let inner = all_parts (Lawfully n) (expr_sites n (scope_in f g) bool_whole e) (block_sites n f g then_) outer.0 in (
+        (λ of e_. kind_ordinary t q is.types base.Bool 0 of refl e_),
+        all_both (IsOrdinary t q) ks_ js
+            (block_slots t q is b p res vs (next + 1) then_ first ks_ run f g formed.1 inner.1 set fixed (here_later set fixed g vs next (next + 1) (omega arith) here))
+            (else_slots t q is b p res vs (next + 1 + length ks_) other second js else_ f g formed.2 outer.1 set fixed
+            (here_later set fixed g vs next (next + 1 + length ks_) (omega arith) here)),
+      )
   stmt_slots t q is b p res vs next s sts ks (Runs.matches {e = e} {arms = arms} {made = made} m h run) f g last formed laws set fixed here =
       let n = t.names in
       let same = alike_type n g.vars vs (slots_alike set fixed g.vars vs here.slots) None e in
@@ -145,10 +146,11 @@ mutual
       let n = t.names in
       let k = type_of n (vars_of vs) None e in
       let same : type_of n g.vars None e ≡ k = alike_type n g.vars vs (slots_alike set fixed g.vars vs here.slots) None e in
-      let parts = all_parts (Lawfully n) (expr_sites n (scope_in f g) matched e) _ laws in
-      (data_there t q is.types k (subst (λ z. is_datatype_kind n z ≡ true) same (matched_data n f g e parts.0)),
-      arms_slots t q is b p res vs (next + 1) k arms made ks_ run f g [] formed.1 (subst (λ z. Laws n (arm_sites n f g z [] arms)) same parts.1.1) set fixed
-      (here_later set fixed g vs next (next + 1) (omega arith) here))
+      let parts = all_parts (Lawfully n) (expr_sites n (scope_in f g) matched e) _ laws in (
+        data_there t q is.types k (subst (λ z. is_datatype_kind n z ≡ true) same (matched_data n f g e parts.0)),
+        arms_slots t q is b p res vs (next + 1) k arms made ks_ run f g [] formed.1 (subst (λ z. Laws n (arm_sites n f g z [] arms)) same parts.1.1) set fixed
+            (here_later set fixed g vs next (next + 1) (omega arith) here),
+      )
   stmt_slots t q is b p res vs next s sts ks (Runs.is_atomic {body = body} {sts = inner} run) f g last formed laws set fixed here =
       block_slots t q is b (inside p) res vs next body inner ks run (record f { inside_atomic = true }) g formed laws.1 set fixed here
   stmt_slots t q is b p res vs next s sts ks (Runs.asserts m h) f g last formed laws set fixed here = tt
@@ -157,7 +159,7 @@ mutual
   stmt_slots t q is b p res vs next s sts ks (Runs.returns_with {at = at} {k = k} {e = e} h r) f g last formed laws set fixed here =
       returned t q b vs next at k e sts ks r (res k h)
 
-  block_slots : (t : Tables) (q : Prog) → Tabled t q → (b : ℕ) (p : Place) → Results t q p → (vs : Vars) (next : ℕ) (body : BlockTree) (sts : Sts) (ks : List Kind)
+  pub block_slots : (t : Tables) (q : Prog) → Tabled t q → (b : ℕ) (p : Place) → Results t q p → (vs : Vars) (next : ℕ) (body : BlockTree) (sts : Sts) (ks : List Kind)
       → BlockRuns t b p vs next body sts ks → (f : Frame) (g : Sight) → FormedBlock Lexable body → Laws t.names (block_sites t.names f g body)
       → (set fixed : ℕ → Bool) → Here set fixed g vs next → AllOrdinary t q ks
   block_slots t q is b p res vs next body sts ks (BlockRuns.block {stmts = stmts} run) f g formed laws set fixed here =

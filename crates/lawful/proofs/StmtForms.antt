@@ -80,6 +80,7 @@ aims t slots set fixed vars vs x s slot (InSlots.another {name} {kind} {has} {no
     by_name (same_name name x) refl named (λ h. aims t slots set fixed others rest x s slot more all.1 h stands) where
       first : Var
       first = record { name = name; kind = kind; set = has; fixed = no_more }
+
       by_name : (same : Bool) → same_name name x ≡ same → cond same (Some (stand name kind (Slot own))) (stand_named rest x) ≡ Some s
           → (stand_named rest x ≡ Some s → Aims t slots fixed others x s slot)
           → Aims t slots fixed (record { name = name; kind = kind; set = has; fixed = no_more } ∷ others) x s slot
