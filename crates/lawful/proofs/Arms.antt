@@ -187,22 +187,26 @@ arms_cover t p k cs n is xs found all differ every =
 abbrev pub CasesDiffer : Names → Type 0
 CasesDiffer n = (k : Kind) (cs : List Case) → cases_of n k ≡ Some cs → IsDistinct flipped (map case_name cs)
 
-there_are_cases : (a : Bool) (o : Option (List Case)) → a ≡ false → (a || is_some o) ≡ true → (cs : List Case) × (o ≡ Some cs)
+pub there_are_cases : (a : Bool) (o : Option (List Case)) → a ≡ false → (a || is_some o) ≡ true → (cs : List Case) × (o ≡ Some cs)
 there_are_cases true o e h = absurd cc
 there_are_cases false None e h = absurd cc
 there_are_cases false (Some cs) e h = (cs, refl)
+
+pub cases_fit : (t : Tables) (p : Prog) → con_table t ≡ Some p.cons → p.types ≡ type_table t → IsDistinct same_kind t.datatypes → CasesDiffer t.names
+    → (k : Kind) (of : Ty) (names : List Name) (found : List ℕ) → ty_of t k ≡ Some of → is_datatype_kind t.names k ≡ true
+    → Pointwise (IsNumber t k) names found → IsDistinct flipped names → is_complete names (cases_of t.names k) ≡ true → are_cases p (Some of) found ≡ true
+cases_fit t p table types kinds differ k of names found is on_data numbers distinct complete =
+    let cs = there_are_cases _ (cases_of t.names k) (known t k of is) on_data in
+    let every : has_every_case names cs.0 ≡ true = subst (λ o. is_complete names o ≡ true) cs.1 complete in
+    map_there (λ z. are_cases p (Some z) found ≡ true) ty.Datatype (datatype_number t k) of (sym (ty_parts t k.base k.maybes cs.0 cs.1) ∙ is) (λ n number.
+    arms_cover t p k cs.0 n
+    (record { table = table; types = types; kinds = kinds; cases = cs.1; names = differ k cs.0 cs.1; number = number }) names found numbers distinct every)
 
 pub cases_are : (t : Tables) (p : Prog) (words : ℕ → Bool) → con_table t ≡ Some p.cons → p.types ≡ type_table t → IsDistinct same_kind t.datatypes
     → CasesDiffer t.names
     → (b : ℕ) (vs : Vars) (k : Kind) (of : Ty) (arms : ExprArmTrees) (made : Arms) (at : Span) (sc : Scope) → ty_of t k ≡ Some of
     → is_datatype_kind t.names k ≡ true → ArmsMean t b vs k arms made → Kept t.names words (Site.arms at k (arm_names arms))
     → AllKept t.names words (arm_sites t.names sc k [] arms) → are_cases p (Some of) (arm_cons made) ≡ true
-cases_are t p words table types kinds names b vs k of arms made at sc is on_data ms here kept =
-    let cs = there_are_cases _ (cases_of t.names k) (known t k of is) on_data in
-    let every : has_every_case (arm_names arms) cs.0 ≡ true =
-    subst (λ o. is_complete (arm_names arms) o ≡ true) cs.1 (not-false _ (when_not _ _ here.t18)) in
-    map_there (λ z. are_cases p (Some z) (arm_cons made) ≡ true) ty.Datatype (datatype_number t k) of (sym (ty_parts t k.base k.maybes cs.0 cs.1) ∙ is) (λ n number.
-    arms_cover t p k cs.0 n
-    (record { table = table; types = types; kinds = kinds; cases = cs.1; names = names k cs.0 cs.1; number = number })
-    (arm_names arms) (arm_cons made) (arm_numbers t b vs k arms made ms)
-    (fresh_distinct same_name [] (arm_names arms) (arms_fresh t.names words sc k [] arms kept)).1 every)
+cases_are t p words table types kinds differ b vs k of arms made at sc is on_data ms here kept =
+    cases_fit t p table types kinds differ k of (arm_names arms) (arm_cons made) is on_data (arm_numbers t b vs k arms made ms)
+    (fresh_distinct same_name [] (arm_names arms) (arms_fresh t.names words sc k [] arms kept)).1 (not-false _ (when_not _ _ here.t18))

@@ -7,11 +7,14 @@ use Rattle.rp_value.specs.declared.tables.Ty.{Ty}
 use Rattle.rp_value.specs.declared.tables.Ty.TheVariants as ty
 use Rattle.rp_value.specs.declared.tables.AtomType.{AtomType}
 use Rattle.rp_lang.specs.Programs.{Prog}
+use Rattle.rp_lang.specs.Types.{is_id_type}
 use Rattle.rp_lang.specs.Typing.{Frame, is_range}
 use Rattle.type_rules.specs.Names.{Name, TypeEntry, TypeSort, same_name, type_number, type_number_from, type_named, first_type}
 use Rattle.type_rules.specs.Kinds.{named_kind}
 use Rattle.type_rules.specs.Rules.{is_datatype}
+use Rattle.type_rules.specs.Rules as rules
 use Rattle.desugaring.specs.Tables.{Tables, atom_in, atoms, atom_number, sort_ty, type_table, ty_of}
+use Rattle.desugaring.specs.Statements.{id_named, id_number}
 use Rattle.lawful.proofs.Forms.{one}
 
 -- the type of a name, by its number and itself
@@ -80,3 +83,42 @@ atom_is t p types x of bare e = by_number t p types x of (type_number t.names x)
       let there : slice_get t.names.types type ≡ Some f.entry = subst (λ i. slice_get t.names.types i ≡ Some f.entry) place f.there in
       atom_sort t p types type f.entry there (subst (λ o. is_datatype o ≡ false) f.named bare) of
       (subst (λ o. option_and_then (λ entry. sort_ty t type entry.sort) o ≡ Some of) there e)
+
+-- the atom of a type stands behind those before it
+atom_at : (es : List TypeEntry) (i : ℕ) (entry : TypeEntry) (atom : AtomType) → slice_get es i ≡ Some entry → atom_in entry ≡ Some atom
+    → slice_get (atoms es) (length (atoms (take i es))) ≡ Some atom
+atom_at [] i entry atom is made = absurd cc
+atom_at (e ∷ es) zero entry atom is made =
+    subst (λ o. slice_get (cons_option o (atoms es)) 0 ≡ Some atom) (sym (subst (λ z. atom_in z ≡ Some atom) (sym (one is)) made)) refl
+atom_at (e ∷ es) (suc i) entry atom is made = by_atom es i atom (atom_in e) (atom_at es i entry atom is made) where
+  by_atom : (es : List TypeEntry) (i : ℕ) (atom : AtomType) (o : Option AtomType) → slice_get (atoms es) (length (atoms (take i es))) ≡ Some atom
+      → slice_get (cons_option o (atoms es)) (length (cons_option o (atoms (take i es)))) ≡ Some atom
+  by_atom es i atom None h = h
+  by_atom es i atom (Some a) h = h
+
+-- an id type of that name is one of the program's
+pub ids_fit : (t : Tables) (p : Prog) → p.types ≡ type_table t → (x : Name) (n : ℕ) → id_named t x ≡ Some n
+    → rules.is_id_type (type_named t.names x) ≡ true → is_id_type (slice_get p.types.atoms n) ≡ true
+ids_fit t p types x n is sort = by_number t p types x n (type_number t.names x) refl is sort where
+  by_sort : (t : Tables) (p : Prog) → p.types ≡ type_table t → (type n : ℕ) (entry : TypeEntry) (sort : TypeSort) → entry.sort ≡ sort
+      → slice_get t.names.types type ≡ Some entry → option_and_then id_number (sort_ty t type sort) ≡ Some n → rules.is_id_sort sort ≡ true
+      → is_id_type (slice_get p.types.atoms n) ≡ true
+  by_sort t p types type n entry TypeSort.id_type sorted is e sort =
+      let atom : AtomType = record { name = entry.name; is_id = true } in
+      let at = atom_at t.names.types type entry atom is (rw sorted refl) in
+      subst (λ z. is_id_type (slice_get z.atoms n) ≡ true) (sym types)
+      (subst (λ m. is_id_type (slice_get (atoms t.names.types) m) ≡ true) (one e) (subst (λ o. is_id_type o ≡ true) (sym at) refl))
+  by_sort t p types type n entry TypeSort.opaque sorted is e sort = absurd cc
+  by_sort t p types type n entry (TypeSort.datatype cons) sorted is e sort = absurd cc
+
+  by_number : (t : Tables) (p : Prog) → p.types ≡ type_table t → (x : Name) (n : ℕ) (o : Option ℕ) → type_number t.names x ≡ o
+      → option_and_then id_number (ty_of t (named_kind o)) ≡ Some n → rules.is_id_type (type_named t.names x) ≡ true
+      → is_id_type (slice_get p.types.atoms n) ≡ true
+  by_number t p types x n None is e sort = absurd cc
+  by_number t p types x n (Some type) is e sort =
+      let f = finds t.names.types x 0 type is in
+      let place : f.place ≡ type = omega (arith, f.number) in
+      let there : slice_get t.names.types type ≡ Some f.entry = subst (λ i. slice_get t.names.types i ≡ Some f.entry) place f.there in
+      by_sort t p types type n f.entry f.entry.sort refl there
+      (subst (λ o. option_and_then id_number (option_and_then (λ (z : TypeEntry). sort_ty t type z.sort) o) ≡ Some n) there e)
+      (subst (λ o. rules.is_id_type o ≡ true) f.named sort)

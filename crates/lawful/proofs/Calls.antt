@@ -84,7 +84,7 @@ beside : (b c : Bool) → b ≡ true → (not b || c) ≡ true → c ≡ true
 beside true c e h = h
 beside false c e h = absurd cc
 
-given_is : (b : Bool) (o : Option Ty) (of : Ty) → b ≡ true → o ≡ Some of → typing_given b o ≡ Some of
+pub given_is : (b : Bool) (o : Option Ty) (of : Ty) → b ≡ true → o ≡ Some of → typing_given b o ≡ Some of
 given_is true o of e is = is
 given_is false o of e is = absurd cc
 

@@ -55,7 +55,7 @@ decls_long : (n : Names) (next : ℕ) (ks : List Kind) → length (data_decls n 
 decls_long n next [] = refl
 decls_long n next (k ∷ ks) = let r = decls_long n (next + length (cons_of n k)) ks in omega (arith, r)
 
-data_ordinary : (t : Tables) (p : Prog) → p.types ≡ type_table t → (k : Kind) (of : Ty) → datatype_ty t k ≡ Some of → is_ordinary p.types of ≡ true
+pub data_ordinary : (t : Tables) (p : Prog) → p.types ≡ type_table t → (k : Kind) (of : Ty) → datatype_ty t k ≡ Some of → is_ordinary p.types of ≡ true
 data_ordinary t p types k of e =
     map_there (λ z. is_ordinary p.types z ≡ true) ty.Datatype (datatype_number t k) of e (λ i found.
     let place = position-Some (same_kind k) t.datatypes i bool_kind found in
@@ -72,7 +72,7 @@ sort_ordinary t p types type entry TypeSort.opaque sorted at of e =
     subst (λ z. is_ordinary p.types z ≡ true) (one e)
     (atom_sort t p types type entry at (rw sorted refl) _ (subst (λ s. sort_ty t type s ≡ sort_ty t type TypeSort.opaque) (sym sorted) refl) in_invariant)
 
-kind_ordinary : (t : Tables) (p : Prog) → p.types ≡ type_table t → (b : Base) (m : ℕ) (of : Ty) → kinds.is_ordinary_base b ≡ true
+pub kind_ordinary : (t : Tables) (p : Prog) → p.types ≡ type_table t → (b : Base) (m : ℕ) (of : Ty) → kinds.is_ordinary_base b ≡ true
     → ty_of t (record { base = b; maybes = m }) ≡ Some of → is_ordinary p.types of ≡ true
 kind_ordinary t p types b (suc m) of data_ e =
     data_ordinary t p types (record { base = b; maybes = suc m }) of

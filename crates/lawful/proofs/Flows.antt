@@ -67,12 +67,12 @@ grows_with set sts s h = or_left (set s) (all_set s sts) h
 
 -- # Assignments
 
-set_there : (at : Span) (slot : ℕ) (v : Value) → sets slot (assigned at slot v) ≡ true
+pub set_there : (at : Span) (slot : ℕ) (v : Value) → sets slot (assigned at slot v) ≡ true
 set_there at slot (term x) = eq-eqb slot slot refl
 set_there at slot (formula f) = eq-eqb slot slot refl
 
 -- an assignment gives the variable's slot a value
-record IsAssigned (vs : Vars) (x : Ident) (sts : Sts) : Type 0 where
+pub record IsAssigned (vs : Vars) (x : Ident) (sts : Sts) : Type 0 where
   pub of : Stand Ex
   pub slot : ℕ
   pub named : stand_named vs (text_of x) ≡ Some of
@@ -156,12 +156,12 @@ one_flow set fixed part st vars vs same slots =
 
 -- # Statements in a row
 
-is_if : (n : Names) (vs : Vars) (next : ℕ) (s : StmtTree) → FormedElse Lexable (ElseTree.else_if s) → FormedStmt Lexable s × (behind n vs next s ≡ vs)
+pub is_if : (n : Names) (vs : Vars) (next : ℕ) (s : StmtTree) → FormedElse Lexable (ElseTree.else_if s) → FormedStmt Lexable s × (behind n vs next s ≡ vs)
 is_if n vs next (StmtTree.node at (StmtForm.if_ e b other)) h = (h, refl)
 is_if n vs next (StmtTree.node at _) h = absurd h
 
 -- a declared variable stands last
-behind_is : (n : Names) (vs : Vars) (next : ℕ) (s : StmtTree) → (own : Vars) × (behind n vs next s ≡ vs ++ own)
+pub behind_is : (n : Names) (vs : Vars) (next : ℕ) (s : StmtTree) → (own : Vars) × (behind n vs next s ≡ vs ++ own)
 behind_is n vs next (StmtTree.node at (StmtForm.var x ty e)) = (stand (text_of x) (kind_of n ty) (Slot next) ∷ [], refl)
 behind_is n vs next (StmtTree.node at _) = ([], sym (append-nil vs))
 
@@ -173,7 +173,7 @@ behind_slotted t b p vs next (StmtTree.node at (StmtForm.var x ty (Some e))) sts
     slotted_push (next + 1) next vs (text_of x) (kind_of t.names ty) (omega arith) (slotted_more next (next + 1) vs (omega arith) below)
 behind_slotted t b p vs next (StmtTree.node at _) sts ks run below = slotted_more next (next + length ks) vs (omega arith) below
 
-row_here : (t : Tables) (b : ℕ) (p : Place) (vs : Vars) (next : ℕ) (s : StmtTree) (sts : Sts) (ks : List Kind) → Runs t b p vs next s sts ks
+pub row_here : (t : Tables) (b : ℕ) (p : Place) (vs : Vars) (next : ℕ) (s : StmtTree) (sts : Sts) (ks : List Kind) → Runs t b p vs next s sts ks
     → (set fixed : ℕ → Bool) (g : Sight) → Here set fixed g vs next → InSlots (With set sts) fixed (after t.names g s).vars (behind t.names vs next s)
     → Here (With set sts) fixed (after t.names g s) (behind t.names vs next s) (next + length ks)
 row_here t b p vs next s sts ks run set fixed g here slots = record {
@@ -197,7 +197,7 @@ row_flow set fixed first rest vars vs slots =
 
 -- # Arms
 
-arm_here : (set fixed : ℕ → Bool) (n : Names) (g : Sight) (vs : Vars) (next : ℕ) (k seen : Kind) (q : PatternTree) → seen ≡ k → Here set fixed g vs next
+pub arm_here : (set fixed : ℕ → Bool) (n : Names) (g : Sight) (vs : Vars) (next : ℕ) (k seen : Kind) (q : PatternTree) → seen ≡ k → Here set fixed g vs next
     → Here (λ s. is_slot s (up_from next (length (pattern_vars q))) || set s) (λ s. is_slot s (up_from next (length (pattern_vars q))) || fixed s)
     (flow.in_pattern n g seen q) (in_pattern n vs next k q) (next + length (pattern_vars q))
 arm_here set fixed n g vs next k seen q same here =

@@ -135,7 +135,7 @@ mutual
       (typed t g bs b vs (Some k) e (term x) m sc (argument plain k) refl st parts.0))
       (terms t g bs b vs rest _ _ ms sc plain ofs j st parts.1))
 
-  keys_typed : (t : Tables) (g : World t) (bs : List Ty) (b : ℕ) (vs : Vars) (ks : List Kind) (steps : StepTrees) (xs : Exs) → KeysMean t b vs ks steps xs
+  pub keys_typed : (t : Tables) (g : World t) (bs : List Ty) (b : ℕ) (vs : Vars) (ks : List Kind) (steps : StepTrees) (xs : Exs) → KeysMean t b vs ks steps xs
       → (sc : Scope) (way : Way) → Along t.names way steps ks → (tys : List Ty) → each (ty_of t) ks ≡ Some tys → In t g bs vs sc
       → Lawful t g (step_sites t.names sc way steps) → AreTerms t g.p g.f bs ks xs
   keys_typed t g bs b vs ks steps xs KeysMean.no_key sc way al tys is st kept = none
@@ -151,7 +151,7 @@ mutual
       (typed t g bs b vs (Some k) e (term x) m sc (argument true k) refl st parts.0))
       (keys_typed t g bs b vs rest _ _ ms sc _ al ofs j st parts.1))
 
-  args_typed : (t : Tables) (g : World t) (bs : List Ty) (b : ℕ) (vs : Vars) (ks : List Kind) (args : ArgTrees) (xs : Exs) → ArgsMean t b vs ks args xs
+  pub args_typed : (t : Tables) (g : World t) (bs : List Ty) (b : ℕ) (vs : Vars) (ks : List Kind) (args : ArgTrees) (xs : Exs) → ArgsMean t b vs ks args xs
       → (sc : Scope) (tys : List Ty) → each (ty_of t) ks ≡ Some tys → In t g bs vs sc
       → Lawful t g (given_sites t.names sc ks args) → AreTerms t g.p g.f bs ks xs
   args_typed t g bs b vs ks args xs ArgsMean.absent sc tys is st kept = none

@@ -66,7 +66,7 @@ pointwise_long R xs ys (more_members {xs = rest} {ys = others} r rs) = let same 
 abbrev Nothing : Kind → Ty → Type 0
 Nothing k ty = Unit {0}
 
-params_long : (t : Tables) (params : List ParamTree) (tys : List Ty) → each (ty_of t) (param_kinds t.names params) ≡ Some tys → length params ≡ length tys
+pub params_long : (t : Tables) (params : List ParamTree) (tys : List Ty) → each (ty_of t) (param_kinds t.names params) ≡ Some tys → length params ≡ length tys
 params_long t params tys are =
     sym (length-map params (λ p. kind_of t.names (param_type p)))
     ∙ pointwise_long Nothing (param_kinds t.names params) tys (each_there Nothing (ty_of t) (λ k ty e. tt) (param_kinds t.names params) tys are)
@@ -78,7 +78,7 @@ bound_is n vs [] = sym (append-nil vs)
 bound_is n vs (p ∷ params) =
     bound_is n (vs ++ param_var n p ∷ []) params ∙ append_assoc vs (param_var n p ∷ []) (param_vars n params)
 
-at_first : (t : Tables) (params : List ParamTree) (many : ℕ) → length params ≡ many
+pub at_first : (t : Tables) (params : List ParamTree) (many : ℕ) → length params ≡ many
     → Here (λ s. nat_lt s many) (λ s. nat_lt s many) (sight_for t.names params) (slotted [] 0 (map param_name params) (param_kinds t.names params)) (length params)
 at_first t params many same =
     let n = t.names in

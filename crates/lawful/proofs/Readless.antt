@@ -36,7 +36,7 @@ mutual
   type_readless p f bs (ResultWith q x) e = rw (type_readless p f bs x e) refl
   type_readless p f bs Unreturned e = refl
 
-  types_readless : (p : Prog) (f : Frame) (bs : List Ty) (ts : List Ty) (xs : Exs) → exs_read xs ≡ false
+  pub types_readless : (p : Prog) (f : Frame) (bs : List Ty) (ts : List Ty) (xs : Exs) → exs_read xs ≡ false
       → have_types p (reading f) bs ts xs ≡ have_types p f bs ts xs
   types_readless p f bs [] no_ex e = refl
   types_readless p f bs [] (also_ex x xs) e = refl

@@ -10,8 +10,8 @@ ghost use Rattle.rp_lang.specs.Exprs.{Ex};
 ghost use Rattle.rp_lang.specs.Formulas.{Arms};
 ghost use Rattle.rp_lang.specs.Programs.{Inv, Proc, Prog};
 ghost use Rattle.rp_lang.specs.Sizes.{sts_count};
-ghost use Rattle.rp_lang.specs.WellFormed.{are_invs, are_roots, begins, returns_a_value};
-ghost use Rattle.rp_lang.specs.Types.{bool_ty, datatype_of, fields_of, has_bool};
+ghost use Rattle.rp_lang.specs.WellFormed.{are_invs, are_procs, are_roots, begins, has_body, returns_a_value};
+ghost use Rattle.rp_lang.specs.Types.{are_ordinary_fields, bool_ty, datatype_of, fields_of, has_bool};
 ghost use Rattle.rp_lang.specs.Typing.{Frame, are_cases, arm_cons, in_invariant, is_range, is_typed, op_args};
 ghost use Rattle.type_rules.specs.declared.kind.Kind.{Kind as TheKind};
 ghost use Rattle.type_rules.specs.Names.{Name, Entry, same_name, text_of, type_named, type_number, entry_named};
@@ -131,6 +131,23 @@ pub fn invariants_are_typed()
 pub fn invariants_are_well_formed()
     ensures { (bytes : List ℕ) (tree : List DeclTree) → IsText bytes tree → (p : Prog) → HasProgram tree p
         → are_invs p ≡ true }
+{}
+
+/// The statements of a lawful text's procedures are well typed in its program, where it passes no limit.
+pub fn bodies_are_typed()
+    ensures { (bytes : List ℕ) (tree : List DeclTree) → IsText bytes tree → (p : Prog) → HasProgram tree p
+        → list_all (has_body p) p.procs ≡ true }
+{}
+
+/// The procedures of a lawful text whose program passes no limit are well formed.
+pub fn procedures_are_well_formed()
+    ensures { (bytes : List ℕ) (tree : List DeclTree) → IsText bytes tree → (p : Prog) → HasProgram tree p
+        → are_procs p ≡ true }
+{}
+
+/// The fields of the constructors of a lawful text's program are of types of data.
+pub fn fields_are_ordinary()
+    ensures { (tree : List DeclTree) (p : Prog) → IsProgramOf tree p → are_ordinary_fields p.types p.cons ≡ true }
 {}
 
 /// At each place of a procedure of a lawful text no rule is broken, its number fits, and a use is of
