@@ -1,6 +1,6 @@
 -- Procedures one after another: their paths, their goals and what is found of them.
-use Rattle.std.proofs.Common.{◌≡◌, ℕ, ◌+◌, ◌<◌, ◌≤◌, min, Bool, true, cond, filter, option_map, List, [], ◌∷◌, ◌++◌, length, map, sum_by, take, drop, get_or, All, Some, slice_get, refl, sym, ◌∙◌, ap, subst, arith, append_assoc}
-use Rattle.std.proofs.lemmas.List.{length-append, take-map, drop_more, map_more, take_all}
+use Rattle.std.proofs.Common.{◌≡◌, ℕ, ◌+◌, ◌<◌, ◌≤◌, min, Bool, true, cond, filter, option_map, List, [], ◌∷◌, ◌++◌, length, map, sum_by, take, drop, get_or, All, Some, slice_get, refl, sym, ◌∙◌, ap, subst, arith, append_assoc, append-nil}
+use Rattle.std.proofs.lemmas.List.{length-append, take-map, drop_more, drop_all, map_more, take_all}
 use Rattle.std.proofs.lemmas.List.Elements.{All-push, All-same}
 use Rattle.std.proofs.lemmas.List.Sums.{sum_by-append}
 use Rattle.std.proofs.lemmas.Option.{slice_get-map, slice_get-get_or}
@@ -109,3 +109,9 @@ found_more procs i q next new old list all within is more found told =
     ∙ (ap (λ n. old ++ (unproved_from next here ++ unproved_from n (goals_from (i + 1) later))) (sym counted)
     ∙ (ap (λ xs. old ++ xs) (sym (unproved_from-append next here (goals_from (i + 1) later)))
     ∙ (ap (λ procs. old ++ unproved_from next (goals_from i procs)) (sym (rest_of procs i q within is)) ∙ told))))
+
+-- no procedure is left
+pub found_all : (procs : List ProcDecl) (i next : ℕ) (list all : List Unproved) → length procs ≤ i
+    → list ++ unproved_from next (goals_from i (map proc_view (drop i procs))) ≡ all → list ≡ all
+found_all procs i next list all past told =
+    sym (append-nil list) ∙ (ap (λ (rest : List ProcDecl). list ++ unproved_from next (goals_from i (map proc_view rest))) (sym (drop_all i procs past)) ∙ told)

@@ -1,11 +1,19 @@
-use Rattle.std.proofs.Common.{◌∙◌, ◌≤◌, List, length, map, All, ap, sym, subst, arith}
+use Rattle.std.proofs.Common.{◌∙◌, ◌++◌, ◌≤◌, List, length, map, All, refl, ap, sym, subst, arith}
 use Rattle.rp_lang.specs.declared.proc.ProcDecl.{ProcDecl}
 use Rattle.rp_lang.specs.Views.{proc_view}
 use Rattle.event_machine.specs.Goals.{goals_from}
 use Rattle.rp_verify.specs.declared.walk.Walk.{Walk}
+use Rattle.rp_verify.specs.Verdicts.{unproved_from}
 use Rattle.rp_verify.proofs.FirstFormLemmas.{HasFewParams, few_params}
-use Rattle.rp_verify.proofs.ProcLemmas.{length-goals_from, sum_split, room_more, found_more}
+use Rattle.rp_verify.proofs.ProcLemmas.{length-goals_from, sum_split, room_more, found_more, found_all}
 use Rattle.rp_verify.proofs.goals.false_goals.Goals as goal
+
+pub loop-i-init : goal.loop-i-init
+loop-i-init c = record {
+  at_start = c.new.ensures;
+  room = refl;
+  told = ap (λ list. list ++ unproved_from 1 (goals_from 0 (map proc_view c.as_slice-procs.result.now))) c.new-2.ensures;
+}
 
 pub add_false_goals-requires-clause-room : goal.add_false_goals-requires-clause-room
 add_false_goals-requires-clause-room c =
@@ -38,3 +46,8 @@ loop-i-preserved c =
           found_more procs c.loop-i.i q old.next new.next old.list new.list _ (omega arith) c.index-procs-i.is next (ap (λ (w : Walk). w.list) moved)
           c.loop-i.invariant.told;
     }
+
+pub returns : goal.returns
+returns c =
+    found_all c.as_slice-procs.result.now c.loop-i.i c.loop-i.walk.next c.loop-i.walk.list _ (omega arith) c.loop-i.invariant.told
+    ∙ ap (λ (procs : List ProcDecl). unproved_from 1 (goals_from 0 (map proc_view procs))) c.as_slice-procs.ensures.items
