@@ -52,6 +52,7 @@ mod Ordinary
 mod DataFields
 mod SlotTypes
 mod Procedures
+mod RootOps
 mod Crdts
 mod ProcHeads
 mod Members
