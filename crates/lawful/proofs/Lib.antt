@@ -53,6 +53,8 @@ mod DataFields
 mod SlotTypes
 mod Procedures
 mod RootOps
+mod Maybes
+mod RootQueries
 mod Crdts
 mod ProcHeads
 mod Members

@@ -123,7 +123,7 @@ own_are t (key k ∷ path) steps ks args tys a b c =
     let whole = own_are t path others ks rest tys j v c in
     ap (λ z. cond z (own_args others rest) None) (subst (λ z. same_ty arg z ≡ true) first (same_self arg)) ∙ whole)))
 
-one_arg : (t : Tables) (k : Kind) (of : Ty) (tys : List Ty) → ty_of t k ≡ Some of → each (ty_of t) (k ∷ []) ≡ Some tys → is_one of tys ≡ true
+pub one_arg : (t : Tables) (k : Kind) (of : Ty) (tys : List Ty) → ty_of t k ≡ Some of → each (ty_of t) (k ∷ []) ≡ Some tys → is_one of tys ≡ true
 one_arg t k of tys is e =
     both_there (λ z. is_one of z ≡ true) ◌∷◌ (ty_of t k) (Some []) tys e
     (λ arg rest a b. subst (λ z. is_one of (arg ∷ z) ≡ true) (one b) (subst (λ z. same_ty z of ≡ true) (one (sym is ∙ a)) (same_self of)))
