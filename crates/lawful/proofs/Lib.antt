@@ -52,6 +52,9 @@ mod Ordinary
 mod DataFields
 mod SlotTypes
 mod Procedures
+mod RootOps
+mod Maybes
+mod RootQueries
 mod Crdts
 mod ProcHeads
 mod Members

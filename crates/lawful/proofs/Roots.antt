@@ -14,7 +14,7 @@ use Rattle.lawful.proofs.Places.{all_both}
 
 -- # What stands at the end of a path
 
-abbrev field_at : ℕ → FieldTrees → Option CrdtTree
+abbrev pub field_at : ℕ → FieldTrees → Option CrdtTree
 field_at k FieldTrees.no_fields = None
 field_at zero (FieldTrees.more_fields (FieldTree.field x c) others) = Some c
 field_at (suc k) (FieldTrees.more_fields x others) = field_at k others

@@ -10,7 +10,7 @@ ghost use Rattle.rp_lang.specs.Exprs.{Ex};
 ghost use Rattle.rp_lang.specs.Formulas.{Arms};
 ghost use Rattle.rp_lang.specs.Programs.{Inv, Proc, Prog};
 ghost use Rattle.rp_lang.specs.Sizes.{sts_count};
-ghost use Rattle.rp_lang.specs.WellFormed.{are_invs, are_procs, are_roots, begins, has_body, returns_a_value};
+ghost use Rattle.rp_lang.specs.WellFormed.{are_invs, are_ops, are_procs, are_queries, are_roots, begins, has_body, returns_a_value};
 ghost use Rattle.rp_lang.specs.Types.{are_ordinary_fields, bool_ty, datatype_of, fields_of, has_bool};
 ghost use Rattle.rp_lang.specs.Typing.{Frame, are_cases, arm_cons, in_invariant, is_range, is_typed, op_args};
 ghost use Rattle.type_rules.specs.declared.kind.Kind.{Kind as TheKind};
@@ -143,6 +143,17 @@ pub fn bodies_are_typed()
 pub fn procedures_are_well_formed()
     ensures { (bytes : List ℕ) (tree : List DeclTree) → IsText bytes tree → (p : Prog) → HasProgram tree p
         → are_procs p ≡ true }
+{}
+
+/// The operations of a lawful text's roots, in its program that passes no limit, are well formed.
+pub fn operations_are_well_formed()
+    ensures { (tree : List DeclTree) (p : Prog) → HasProgram tree p → are_ops p.roots p.ops ≡ true }
+{}
+
+/// The queries of a lawful text's roots, in its program that passes no limit, are well formed.
+pub fn queries_are_well_formed()
+    ensures { (bytes : List ℕ) (tree : List DeclTree) → IsText bytes tree → (p : Prog) → HasProgram tree p
+        → are_queries p ≡ true }
 {}
 
 /// The fields of the constructors of a lawful text's program are of types of data.
