@@ -55,6 +55,7 @@ mod Procedures
 mod RootOps
 mod Maybes
 mod RootQueries
+mod Closed
 mod Crdts
 mod ProcHeads
 mod Members
