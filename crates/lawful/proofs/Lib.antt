@@ -56,6 +56,7 @@ mod RootOps
 mod Maybes
 mod RootQueries
 mod Closed
+mod ClosedStmts
 mod Crdts
 mod ProcHeads
 mod Members
