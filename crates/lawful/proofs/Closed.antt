@@ -54,7 +54,7 @@ mutual
   form_closed n TypeForm.call = refl
   form_closed n TypeForm.invocation = refl
 
-params_closed : (n : Names) (params : List ParamTree) → AllClosed (param_kinds n params)
+pub params_closed : (n : Names) (params : List ParamTree) → AllClosed (param_kinds n params)
 params_closed n [] = tt
 params_closed n (q ∷ params) = (written_closed n (param_type q), params_closed n params)
 

@@ -57,6 +57,7 @@ mod Maybes
 mod RootQueries
 mod Closed
 mod ClosedStmts
+mod FirstCons
 mod Crdts
 mod ProcHeads
 mod Members
