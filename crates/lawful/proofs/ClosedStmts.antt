@@ -74,10 +74,11 @@ mutual
       let outer = all_parts (Lawfully n) (first ++ block_sites n f g b) (else_sites n f g other) laws in
       let inner = all_parts (Lawfully n) first (block_sites n f g b) outer.0 in
       let then_ = block_types n f g b vars inner.1 in
-      let else_ = else_types n f g other vars outer.1 in
-      (join_types n (first ++ block_sites n f g b) (else_sites n f g other)
-      (join_types n first (block_sites n f g b) (types_closed n (scope_in f g) bool_whole e vars inner.0) then_.0) else_.0,
-      both_closed (after_block n g b).vars (after_else n g other).vars then_.1)
+      let else_ = else_types n f g other vars outer.1 in (
+        join_types n (first ++ block_sites n f g b) (else_sites n f g other)
+            (join_types n first (block_sites n f g b) (types_closed n (scope_in f g) bool_whole e vars inner.0) then_.0) else_.0,
+        both_closed (after_block n g b).vars (after_else n g other).vars then_.1,
+      )
   stmt_types n f g last (StmtTree.node at (StmtForm.match e arms)) vars laws =
       let first = expr_sites n (scope_in f g) matched e in
       let p = all_parts (Lawfully n) first _ laws in
@@ -122,9 +123,10 @@ mutual
       let inner = all_parts (Lawfully n) front (block_sites n f inner_sight b) outer.0 in
       let below = bound_closed g.vars (pattern_vars q) (pattern_kinds n k (pattern_name q)) vars (pattern_closed n k (pattern_name q) h) in
       let own = block_types n f inner_sight b below inner.1 in
-      let rest = arms_types n f g k _ arms vars h outer.1 in
-      (join_types n (front ++ block_sites n f inner_sight b) _ (join_types n front (block_sites n f inner_sight b) (pattern_types n g.vars k before q) own.0) rest.0,
-      both_closed _ (after_arms n g k arms).vars (take_closed (length g.vars) (after_block n inner_sight b).vars own.1))
+      let rest = arms_types n f g k _ arms vars h outer.1 in (
+        join_types n (front ++ block_sites n f inner_sight b) _ (join_types n front (block_sites n f inner_sight b) (pattern_types n g.vars k before q) own.0) rest.0,
+        both_closed _ (after_arms n g k arms).vars (take_closed (length g.vars) (after_block n inner_sight b).vars own.1),
+      )
 
 -- # Declarations
 

@@ -16,6 +16,7 @@ use Rattle.type_rules.specs.Names.{Names, TypeEntry, TypeSort, con_fields, types
 use Rattle.type_rules.specs.Kinds.{bool_kind, is_open, kind_of, maybe_of, param_kinds, plain_kind}
 use Rattle.type_rules.specs.Queries.{names_of}
 use Rattle.type_rules.specs.Sites.{Site}
+use Rattle.type_rules.specs.Typing.{type_of}
 use Rattle.type_rules.specs.Matches.{Case, cases_of, con_case, declared_cases, maybe_cases, sort_cases}
 use Rattle.type_rules.specs.ExprSites.{asks, expr_sites}
 use Rattle.type_rules.specs.DeclSites.{invariant_sites, param_sites, proc_sites, query_sites, scope_for}
@@ -131,3 +132,107 @@ parts_first n all k closed =
     join n (base_parts n (reverse n.types) k.base) (maybes_of k.base k.maybes)
     (base_first n (reverse n.types) (λ i e at. subst (λ xs. slice_get xs i ≡ Some e) (reverse-reverse n.types) at) (all_reverse EntryHas n.types all) k.base)
     (maybes_first n k.base k.maybes closed)
+
+-- # Where they appear
+
+sites_first : (n : Names) → TypesHave n → (ss : List Site) → AllTypes n ss → AllFirst n (flat_map (site_kinds n) ss)
+sites_first n all [] types = tt
+sites_first n all (s ∷ ss) types =
+    join n (site_kinds n s) (flat_map (site_kinds n) ss) (site_first n all s types.0) (sites_first n all ss types.1) where
+      site_first : (n : Names) → TypesHave n → (s : Site) → TypeClosed n s → AllFirst n (site_kinds n s)
+      site_first n all (Site.written decl r t) closed = parts_first n all (kind_of n t) (written_closed n t)
+      site_first n all (Site.place sc w (ExprTree.node at (ExprForm.some_of e))) closed =
+          parts_first n all (type_of n sc.vars w.asked (ExprTree.node at (ExprForm.some_of e))) closed
+      site_first n all (Site.place sc w (ExprTree.node at _)) closed = tt
+      site_first n all _ closed = tt
+
+mutual
+  crdt_first : (n : Names) → TypesHave n → (c : CrdtTree) → AllFirst n (crdt_kinds n c)
+  crdt_first n all (CrdtTree.node at form) = crdt_form_first n all form
+
+  crdt_form_first : (n : Names) → TypesHave n → (form : CrdtForm) → AllFirst n (form_kinds n form)
+  crdt_form_first n all (CrdtForm.set_aw t) = parts_first n all (kind_of n t) (written_closed n t)
+  crdt_form_first n all (CrdtForm.set_rw t) = parts_first n all (kind_of n t) (written_closed n t)
+  crdt_form_first n all (CrdtForm.reg t) = parts_first n all (maybe_of (kind_of n t)) (written_closed n t)
+  crdt_form_first n all (CrdtForm.mv_reg t) = parts_first n all (kind_of n t) (written_closed n t)
+  crdt_form_first n all CrdtForm.counter = tt
+  crdt_form_first n all (CrdtForm.map_uw t c) = join n (parts n (kind_of n t)) (crdt_kinds n c) (parts_first n all (kind_of n t) (written_closed n t)) (crdt_first n all c)
+  crdt_form_first n all (CrdtForm.map_dw t c) = join n (parts n (kind_of n t)) (crdt_kinds n c) (parts_first n all (kind_of n t) (written_closed n t)) (crdt_first n all c)
+  crdt_form_first n all (CrdtForm.struct fields) = crdt_fields_first n all fields
+
+  crdt_fields_first : (n : Names) → TypesHave n → (fields : FieldTrees) → AllFirst n (fields_kinds n fields)
+  crdt_fields_first n all FieldTrees.no_fields = tt
+  crdt_fields_first n all (FieldTrees.more_fields (FieldTree.field x c) fields) =
+      join n (crdt_kinds n c) (fields_kinds n fields) (crdt_first n all c) (crdt_fields_first n all fields)
+
+query_first : (n : Names) → TypesHave n → (k : ℕ) (words : Bool) (q : QueryTree) → AllByRecursion (Lawfully n) (query_sites n k words q)
+    → AllFirst n (flat_map (site_kinds n) (query_sites n k true q))
+query_first n all k words (QueryTree.query x params result body) laws =
+    let whole = query_types n k words (QueryTree.query x params result body) laws in
+    let front = param_sites n k role.QueryParam params in
+    let sites = expr_sites n (scope_for n k words params) (asks 21 (kind_of n result)) body in
+    let there = expr_sites n (scope_for n k true params) (asks 21 (kind_of n result)) body in
+    let own = all_parts (TypeClosed n) front (Site.written k role.QueryResult result ∷ sites) whole in
+    let same : flat_map (site_kinds n) there ≡ flat_map (site_kinds n) sites =
+    sym (ap (flat_map (site_kinds n)) (spoken n (scope_for n k words params) (asks 21 (kind_of n result)) body)) ∙ same_kinds n sites in
+    subst (AllFirst n) (sym (flat_map-append (site_kinds n) front (Site.written k role.QueryResult result ∷ there)))
+    (join n (flat_map (site_kinds n) front) (flat_map (site_kinds n) (Site.written k role.QueryResult result ∷ there)) (sites_first n all front own.0)
+    (join n (site_kinds n (Site.written k role.QueryResult result)) (flat_map (site_kinds n) there) (parts_first n all (kind_of n result) (written_closed n result))
+    (subst (AllFirst n) (sym same) (sites_first n all sites own.1.1))))
+
+kinds_first : (n : Names) → TypesHave n → (seen : Seen) (k type : ℕ) (ds : List DeclTree) → AllByRecursion (Lawfully n) (decl_sites n seen k ds)
+    → AllFirst n (kinds_from n k type ds)
+kinds_first n all seen k type [] laws = tt
+kinds_first n all seen k type (DeclTree.node at (DeclForm.id_type x) ∷ ds) laws =
+    kinds_first n all (with_decl seen (DeclForm.id_type x)) (k + 1) _ ds (decl_parts (Lawfully n) n seen k at (DeclForm.id_type x) ds laws).1
+kinds_first n all seen k type (DeclTree.node at (DeclForm.opaque x) ∷ ds) laws =
+    kinds_first n all (with_decl seen (DeclForm.opaque x)) (k + 1) _ ds (decl_parts (Lawfully n) n seen k at (DeclForm.opaque x) ds laws).1
+kinds_first n all seen k type (DeclTree.node at (DeclForm.datatype x cs) ∷ ds) laws =
+    let p = decl_parts (Lawfully n) n seen k at (DeclForm.datatype x cs) ds laws in
+    join n (parts n (plain_kind (base.Declared type))) _ (parts_first n all (plain_kind (base.Declared type)) refl)
+    (kinds_first n all (with_decl seen (DeclForm.datatype x cs)) (k + 1) _ ds p.1)
+kinds_first n all seen k type (DeclTree.node at (DeclForm.crdt x c) ∷ ds) laws =
+    let p = decl_parts (Lawfully n) n seen k at (DeclForm.crdt x c) ds laws in
+    join n (crdt_kinds n c) _ (crdt_first n all c) (kinds_first n all (with_decl seen (DeclForm.crdt x c)) (k + 1) _ ds p.1)
+kinds_first n all seen k type (DeclTree.node at (DeclForm.query q) ∷ ds) laws =
+    let p = decl_parts (Lawfully n) n seen k at (DeclForm.query q) ds laws in
+    join n (flat_map (site_kinds n) (query_sites n k true q)) _ (query_first n all k _ q p.0) (kinds_first n all (with_decl seen (DeclForm.query q)) (k + 1) _ ds p.1)
+kinds_first n all seen k type (DeclTree.node at (DeclForm.invariant x e) ∷ ds) laws =
+    let p = decl_parts (Lawfully n) n seen k at (DeclForm.invariant x e) ds laws in
+    join n (flat_map (site_kinds n) (invariant_sites n k e)) _ (sites_first n all (invariant_sites n k e) (invariant_types n k e p.0))
+    (kinds_first n all (with_decl seen (DeclForm.invariant x e)) (k + 1) _ ds p.1)
+kinds_first n all seen k type (DeclTree.node at (DeclForm.proc q) ∷ ds) laws =
+    let p = decl_parts (Lawfully n) n seen k at (DeclForm.proc q) ds laws in
+    join n (flat_map (site_kinds n) (proc_sites n k q)) _ (sites_first n all (proc_sites n k q) (proc_types n k q p.0))
+    (kinds_first n all (with_decl seen (DeclForm.proc q)) (k + 1) _ ds p.1)
+
+-- # All of them
+
+types_have : (k : ℕ) (ds : List DeclTree) → FormedDecls Lexable ds → AllByRecursion EntryHas (types_from k ds)
+types_have k [] h = tt
+types_have k (DeclTree.node at (DeclForm.id_type x) ∷ ds) h = (tt, types_have (k + 1) ds h.1)
+types_have k (DeclTree.node at (DeclForm.opaque x) ∷ ds) h = (tt, types_have (k + 1) ds h.1)
+types_have k (DeclTree.node at (DeclForm.datatype x []) ∷ ds) h = absurd h.0
+types_have k (DeclTree.node at (DeclForm.datatype x (c ∷ cs)) ∷ ds) h = (tt, types_have (k + 1) ds h.1)
+types_have k (DeclTree.node at (DeclForm.crdt x c) ∷ ds) h = types_have (k + 1) ds h.1
+types_have k (DeclTree.node at (DeclForm.query q) ∷ ds) h = types_have (k + 1) ds h.1
+types_have k (DeclTree.node at (DeclForm.invariant x e) ∷ ds) h = types_have (k + 1) ds h.1
+types_have k (DeclTree.node at (DeclForm.proc q) ∷ ds) h = types_have (k + 1) ds h.1
+
+filter_first : (n : Names) (test : Kind → Bool) (ks : List Kind) → AllFirst n ks → AllFirst n (filter test ks)
+filter_first n test [] all = tt
+filter_first n test (k ∷ ks) all = by_test n test k ks (test k) all.0 (filter_first n test ks all.1) where
+  by_test : (n : Names) (test : Kind → Bool) (k : Kind) (ks : List Kind) (stays : Bool) → HasFirst n k → AllFirst n (filter test ks)
+      → AllFirst n (cond stays (k ∷ filter test ks) (filter test ks))
+  by_test n test k ks true first rest = (first, rest)
+  by_test n test k ks false first rest = rest
+
+once_first : (n : Names) (ks : List Kind) → AllFirst n ks → AllFirst n (each_once ks)
+once_first n [] all = tt
+once_first n (k ∷ ks) all = (all.0, filter_first n _ (each_once ks) (once_first n ks all.1))
+
+pub datatypes_first : (bytes : List ℕ) (tree : List DeclTree) → IsText bytes tree → IsLawful tree → AllFirst (names_of tree) (tables_of tree).datatypes
+datatypes_first bytes tree text lawful =
+    let n = names_of tree in
+    let have = subst (AllByRecursion EntryHas) (sym (types_are tree)) (types_have 0 tree (text_formed bytes tree text)) in
+    once_first n (bool_kind ∷ kinds_from n 0 0 tree) ((_, refl), kinds_first n have nothing_seen 0 0 tree (all_lawful tree lawful))

@@ -58,6 +58,7 @@ mod RootQueries
 mod Closed
 mod ClosedStmts
 mod FirstCons
+mod Numbering
 mod Crdts
 mod ProcHeads
 mod Members
