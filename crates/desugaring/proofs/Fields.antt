@@ -14,7 +14,7 @@ use Rattle.desugaring.proofs.Options.{both_there, then_there, map_there}
 
 -- # Lists of parts
 
-each_length : {X Y : Type 0} (f : X → Option Y) (xs : List X) (ys : List Y) → each f xs ≡ Some ys → length ys ≡ length xs
+pub each_length : {X Y : Type 0} (f : X → Option Y) (xs : List X) (ys : List Y) → each f xs ≡ Some ys → length ys ≡ length xs
 each_length f [] [] e = refl
 each_length f [] (y ∷ ys) e = absurd cc
 each_length f (x ∷ xs) ys e =

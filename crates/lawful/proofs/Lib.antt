@@ -55,6 +55,10 @@ mod Procedures
 mod RootOps
 mod Maybes
 mod RootQueries
+mod Closed
+mod ClosedStmts
+mod FirstCons
+mod Numbering
 mod Crdts
 mod ProcHeads
 mod Members

@@ -24,12 +24,12 @@ use Rattle.lawful.proofs.RootOps.{one_arg}
 
 -- # Where a constructor stands
 
-left_at : {X : Type 0} (xs ys : List X) (i : ℕ) (z : X) → slice_get xs i ≡ Some z → slice_get (xs ++ ys) i ≡ Some z
+pub left_at : {X : Type 0} (xs ys : List X) (i : ℕ) (z : X) → slice_get xs i ≡ Some z → slice_get (xs ++ ys) i ≡ Some z
 left_at [] ys i z is = absurd cc
 left_at (x ∷ xs) ys zero z is = is
 left_at (x ∷ xs) ys (suc i) z is = left_at xs ys i z is
 
-right_at : {X : Type 0} (xs ys : List X) (i : ℕ) (z : X) → slice_get ys i ≡ Some z → (c : ℕ) × (c ≡ length xs + i) × (slice_get (xs ++ ys) c ≡ Some z)
+pub right_at : {X : Type 0} (xs ys : List X) (i : ℕ) (z : X) → slice_get ys i ≡ Some z → (c : ℕ) × (c ≡ length xs + i) × (slice_get (xs ++ ys) c ≡ Some z)
 right_at [] ys i z is = (i, omega arith, is)
 right_at (x ∷ xs) ys i z is = let r = right_at xs ys i z is in (suc r.0, omega (arith, r.1), r.2)
 

@@ -91,7 +91,7 @@ base_data n (entry ∷ before) all b =
       by_test n entry before b true own others = own
       by_test n entry before b false own others = others
 
-all_reverse : {X : Type 0} (P : X → Type 0) (xs : List X) → AllByRecursion P xs → AllByRecursion P (reverse xs)
+pub all_reverse : {X : Type 0} (P : X → Type 0) (xs : List X) → AllByRecursion P xs → AllByRecursion P (reverse xs)
 all_reverse P [] all = tt
 all_reverse P (x ∷ xs) all =
     subst (AllByRecursion P) (sym (reverse_onto xs x [])) (all_both P (reverse xs) (x ∷ []) (all_reverse P xs all.1) (all.0, tt))
@@ -197,7 +197,7 @@ mutual
       join (crdt_kinds n c) (fields_kinds n fields) (crdt_data n all k c own.0) (crdt_fields_data n all k fields own.1)
 
 -- the datatypes of a place don't hang on whether calls may be spoken of there
-same_kinds : (n : Names) (ss : List Site) → flat_map (site_kinds n) (map speaking ss) ≡ flat_map (site_kinds n) ss
+pub same_kinds : (n : Names) (ss : List Site) → flat_map (site_kinds n) (map speaking ss) ≡ flat_map (site_kinds n) ss
 same_kinds n [] = refl
 same_kinds n (s ∷ ss) = ap (λ z. z ++ flat_map (site_kinds n) (map speaking ss)) (one_same n s) ∙ ap (λ z. site_kinds n s ++ z) (same_kinds n ss) where
   one_same : (n : Names) (s : Site) → site_kinds n (speaking s) ≡ site_kinds n s

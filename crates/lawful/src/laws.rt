@@ -11,7 +11,7 @@ ghost use Rattle.rp_lang.specs.Formulas.{Arms};
 ghost use Rattle.rp_lang.specs.Programs.{Inv, Proc, Prog};
 ghost use Rattle.rp_lang.specs.Sizes.{sts_count};
 ghost use Rattle.rp_lang.specs.WellFormed.{are_invs, are_ops, are_procs, are_queries, are_roots, begins, has_body, returns_a_value};
-ghost use Rattle.rp_lang.specs.Types.{are_ordinary_fields, bool_ty, datatype_of, fields_of, has_bool};
+ghost use Rattle.rp_lang.specs.Types.{are_numbered, are_ordinary_fields, bool_ty, datatype_of, fields_of, has_bool};
 ghost use Rattle.rp_lang.specs.Typing.{Frame, are_cases, arm_cons, in_invariant, is_range, is_typed, op_args};
 ghost use Rattle.type_rules.specs.declared.kind.Kind.{Kind as TheKind};
 ghost use Rattle.type_rules.specs.Names.{Name, Entry, same_name, text_of, type_named, type_number, entry_named};
@@ -154,6 +154,12 @@ pub fn operations_are_well_formed()
 pub fn queries_are_well_formed()
     ensures { (bytes : List ℕ) (tree : List DeclTree) → IsText bytes tree → (p : Prog) → HasProgram tree p
         → are_queries p ≡ true }
+{}
+
+/// The constructors of each datatype of a lawful text's program are the next ones, in order, one or more.
+pub fn constructors_are_numbered()
+    ensures { (bytes : List ℕ) (tree : List DeclTree) → IsText bytes tree → (p : Prog) → IsProgramOf tree p
+        → are_numbered p.cons 0 0 p.types.datatypes ≡ true }
 {}
 
 /// The fields of the constructors of a lawful text's program are of types of data.
