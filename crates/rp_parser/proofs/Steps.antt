@@ -66,9 +66,5 @@ no_symbol m s t a (at x v ∷ ts) h e f = alike s t x v ts (f x v ∙ cond_false
 pub led_to : {X : Type 0} → (r : Result X Fault) (o p : Bounded) (f : X → Bounded) → o ≡ p → Gives r p f → Gives r o f
 led_to r o p f h g = subst (λ o. Gives r o f) (sym h) g
 
--- where what is held is let go
-pub let_go : (e l : Fault) (o : Bounded) → l ≡ e → Faults e o → Faults l o
-let_go e l o h g = subst (λ e. Faults e o) (sym h) g
-
 pub marks_longer : (ms rest : List Mark) → length ms ≡ suc (length rest) → length (toks ms) ≡ suc (length rest)
 marks_longer ms rest h = length_toks ms ∙ h
