@@ -1,5 +1,5 @@
 -- What is left, and where the machine stands before it.
-use Rattle.std.proofs.Common.{arith, ◌≡◌, ℕ, suc, length, ◌≤◌, false, cond, Option, Some, None, IfSome, MatchOption, List, [], ◌∷◌, ◌++◌, map, ◌<◌, Result, Ok, Err, IfOk, refl, ap, subst, sym, ◌∙◌}
+use Rattle.std.proofs.Common.{arith, ◌≡◌, ℕ, suc, length, ◌≤◌, false, cond, Option, Some, None, IfSome, MatchOption, List, [], ◌∷◌, ◌++◌, map, ◌<◌, Result, Ok, Err, IfOk, ap, subst, sym, ◌∙◌}
 use denote.Bor.{Bor}
 use Rattle.rp_span.specs.declared.Span.{Span}
 use Rattle.rp_grammar.specs.declared.terminal.Symbol.{Symbol}
@@ -15,7 +15,7 @@ use Rattle.rp_parser.specs.declared.mark.Mark.{Mark}
 use Rattle.rp_parser.specs.declared.mark.Rest.{Rest}
 use Rattle.rp_parser.specs.declared.mark.Rest.TheVariants as rest
 use Rattle.rp_parser.specs.means.Marks.{toks}
-use Rattle.rp_parser.specs.means.Reading.{Faults, Gives, Stands, left, Within, IfLeft, next_of, Moves, Enters}
+use Rattle.rp_parser.specs.means.Reading.{Faults, Stands, left, Within, IfLeft, next_of, Moves, Enters}
 use Rattle.rp_parser.proofs.Lists.{map_pushed, map_one, map_two}
 use Rattle.rp_parser.proofs.Steps.{no_symbol, marks_longer}
 use Rattle.rp_parser.proofs.Chains.{stops}

@@ -55,11 +55,15 @@ pub(crate) fn decl_sign(marks: Marks) -> Option<(DeclStart, Span, Marks)>
         → IfSome result (λ x. bounded 64 (in_decls xs) (toks marks.now) ≡ bounded 64 (decl_next
         (λ y. in_decls (xs ++ y ∷ [])) x.1 x.0) (toks x.2.now)) }
 {
-    let (first, rest) = marks.split_first()?;
+    let Some((first, rest)) = marks.split_first() else {
+        return None;
+    };
     let Kind::Word(word) = first.kind else {
         return None;
     };
-    let start = decl_word(word)?;
+    let Some(start) = decl_word(word) else {
+        return None;
+    };
     Some((start, first.span, rest))
 }
 
@@ -99,10 +103,14 @@ fn claim_marks(marks: Marks) -> Option<(&[u8], Span, Marks)>
         (λ x. bounded 64 (in_invariant s k) (toks marks.now)
         ≡ bounded 64 (want_claim s (Some (ident x.0.now x.1)) k) (toks x.2.now)) }
 {
-    let (first, rest) = marks.split_first()?;
+    let Some((first, rest)) = marks.split_first() else {
+        return None;
+    };
     let Kind::Name(bytes) = first.kind else {
         return None;
     };
-    let (_, after) = next::behind(rest, Symbol::Colon)?;
+    let Some((_, after)) = next::behind(rest, Symbol::Colon) else {
+        return None;
+    };
     Some((bytes, first.span, after))
 }

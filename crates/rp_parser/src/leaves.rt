@@ -47,7 +47,9 @@ fn first_meant(inside: &[u8]) -> Option<(u8, &[u8])>
         (λ x. meant inside.now ≡ x.0 ∷ meant x.1.now) }
     ensures shorter { IfSome result (λ x. length x.1.now < length inside.now) }
 {
-    let (first, rest) = inside.split_first()?;
+    let Some((first, rest)) = inside.split_first() else {
+        return None;
+    };
     if *first != b'\\' {
         return Some((*first, rest));
     }

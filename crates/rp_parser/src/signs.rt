@@ -163,7 +163,9 @@ fn sum_symbol(marks: Marks) -> Option<(SumSign, Marks)>
         (λ x. bounded 64 (more_sum d a k) (toks marks.now) ≡ bounded 64 (want_prim (suc d)
         (λ b. more_sum (suc d) (between (sum_form x.0) a b) k)) (toks x.1.now)) }
 {
-    let (first, rest) = marks.split_first()?;
+    let Some((first, rest)) = marks.split_first() else {
+        return None;
+    };
     match first.kind {
         Kind::Symbol(Symbol::Plus) => Some((SumSign::Plus, rest)),
         Kind::Symbol(Symbol::Minus) => Some((SumSign::Minus, rest)),
@@ -209,11 +211,15 @@ fn compare_symbol(marks: Marks) -> Option<(CompareOp, Marks)>
         (λ x. bounded 64 (more_cmp d a k) (toks marks.now) ≡ bounded 64 (want_sum d
         (λ b. k (between (ExprForm.compare x.0) a b))) (toks x.1.now)) }
 {
-    let (first, rest) = marks.split_first()?;
+    let Some((first, rest)) = marks.split_first() else {
+        return None;
+    };
     let Kind::Symbol(symbol) = first.kind else {
         return None;
     };
-    let op = comparison(symbol)?;
+    let Some(op) = comparison(symbol) else {
+        return None;
+    };
     Some((op, rest))
 }
 
@@ -320,7 +326,9 @@ fn step_symbol(marks: Marks) -> Option<(StepSign, Marks)>
     if let Some((_, rest)) = next::behind(marks, Symbol::Dot) {
         return Some((StepSign::Dot, rest));
     }
-    let (_, rest) = next::behind(marks, Symbol::OpenBracket)?;
+    let Some((_, rest)) = next::behind(marks, Symbol::OpenBracket) else {
+        return None;
+    };
     Some((StepSign::Key, rest))
 }
 
@@ -355,7 +363,9 @@ fn args_symbol(marks: Marks) -> Option<Marks>
         (λ rest. bounded 64 (in_access d n xs v k) (toks marks.now)
         ≡ bounded 64 (in_args d n xs v k) (toks rest.now)) }
 {
-    let (_, rest) = next::behind(marks, Symbol::OpenParen)?;
+    let Some((_, rest)) = next::behind(marks, Symbol::OpenParen) else {
+        return None;
+    };
     Some(rest)
 }
 

@@ -83,8 +83,12 @@ fn stmt_next_mark(marks: Marks) -> Option<(StmtStart, Span, Marks)>
         (λ x. Moves d (in_stmts d xs k) (toks marks.now) (stmt_next d
         (λ y. in_stmts d (xs ++ y ∷ []) k) x.1 x.0) (toks x.2.now)) }
 {
-    let (first, rest) = marks.split_first()?;
-    let start = stmt_start(first.kind)?;
+    let Some((first, rest)) = marks.split_first() else {
+        return None;
+    };
+    let Some(start) = stmt_start(first.kind) else {
+        return None;
+    };
     Some((start, first.span, rest))
 }
 
@@ -111,8 +115,12 @@ fn arm_next_mark(marks: Marks) -> Option<(&[u8], Span, Marks)>
         (λ x. Moves d (in_block_arms d as_ k) (toks marks.now) (in_arm d (ident x.0.now x.1)
         (λ a. in_block_arms d (as_ ++ a ∷ []) k)) (toks x.2.now)) }
 {
-    let (first, rest) = marks.split_first()?;
-    let con = constructor(first.kind)?;
+    let Some((first, rest)) = marks.split_first() else {
+        return None;
+    };
+    let Some(con) = constructor(first.kind) else {
+        return None;
+    };
     Some((con, first.span, rest))
 }
 
@@ -142,7 +150,9 @@ fn else_next_mark(marks: Marks) -> Option<Marks>
         (λ rest. bounded 64 (more_if d v e b k) (toks marks.now)
         ≡ bounded 64 (want_else d v e b k) (toks rest.now)) }
 {
-    let (_, rest) = word_behind(marks, Word::Else)?;
+    let Some((_, rest)) = word_behind(marks, Word::Else) else {
+        return None;
+    };
     Some(rest)
 }
 
