@@ -32,7 +32,8 @@ use std::alloc::Global;
 fn read_declared<'a>(alloc: Global, start: Span, rest: Rest<'a>) -> (Ident, Span, Rest<'a>)
     ensures no_longer { left result.2 ≤ left rest.entry }
     ensures reads { (o : Bounded) (f : IdentTree → DeclShape) (k : DeclTree → State)
-        → Stands rest.entry (in_type f start k) o → Stands result.2 (k (DeclTree.node result.1 (f (ident_view result.0)))) o }
+        → Stands rest.entry (in_type f start k) o
+        → Stands result.2 (k (DeclTree.node result.1 (f (ident_view result.0)))) o }
 {
     let (name, after) = name(alloc, rest, 0);
     let (close, end) = symbol(after, Symbol::Semicolon, 0);
@@ -131,7 +132,8 @@ fn read_claim<'a>(
 ) -> (Decl, Rest<'a>)
     ensures no_longer { left result.1 ≤ left rest.entry }
     ensures reads { (o : Bounded) (k : DeclTree → State)
-        → Stands rest.entry (want_claim start (optional_view ident_view name) k) o → Stands result.1 (k (decl_view result.0)) o }
+        → Stands rest.entry (want_claim start (optional_view ident_view name) k) o
+        → Stands result.1 (k (decl_view result.0)) o }
 {
     let (claim, close, end) = read_sentence(alloc, rest, 0);
     let span = join(start, close);

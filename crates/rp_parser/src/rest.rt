@@ -1,5 +1,5 @@
-//! Reading on from what is left. Behind a fault nothing is read: what a function gives there is a stand-in, and what is left
-//! stays the same.
+//! Reading on from what is left. Behind a fault nothing is read: what a function gives there is a stand-in,
+//! and what is left stays the same.
 
 ghost use Rattle.std.specs.Prelude.{List as Items};
 ghost use Rattle.std.specs.Prelude.{◌≡◌, ℕ, ◌<◌, ◌≤◌, [], ◌∷◌, ◌++◌, not, IsTrue, IfOk, IfSome, MatchOption, length, false};

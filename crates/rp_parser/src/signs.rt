@@ -140,7 +140,8 @@ pub(crate) fn implies_sign(rest: Rest, depth: u32) -> Option<Marks>
         → (a : Part ExprTree) (k : Part ExprTree → State)
         → Stands rest.entry (more_implies d a k) o
         → MatchOption result (Stands rest.entry (k a) o)
-        (λ after. o ≡ bounded 64 (want_expr (suc d) (λ b. k (between ExprForm.implies a b))) (toks after.now)) }
+        (λ after. o ≡ bounded 64 (want_expr (suc d)
+        (λ b. k (between ExprForm.implies a b))) (toks after.now)) }
 {
     let Some((_, after)) = behind(rest, Symbol::Implies) else {
         return None;
