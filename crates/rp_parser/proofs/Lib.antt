@@ -1,4 +1,5 @@
 pub mod Steps
+pub mod Rests
 pub mod Moves
 pub mod Lists
 pub mod Chains

@@ -3,9 +3,11 @@ use Rattle.std.proofs.Common.{◌≡◌, ℕ, ◌<◌, ◌≤◌, true, false, c
 use Rattle.std.proofs.lemmas.Bool.Decides.{nat_tests}
 use Rattle.rp_span.specs.declared.Span.{Span}
 use Rattle.rp_grammar.specs.declared.terminal.Symbol.{Symbol}
-use Rattle.rp_grammar.specs.Terminals.{Terminal, symbol, Tok, at}
-use Rattle.rp_tokens.specs.MachineStates.{is_symbol, State, Move, to}
+use Rattle.rp_grammar.specs.declared.terminal.Word.{Word}
+use Rattle.rp_grammar.specs.Terminals.{Terminal, symbol, word, Tok, at}
+use Rattle.rp_tokens.specs.MachineStates.{is_symbol, is_word, State, Move, to}
 use Rattle.rp_tokens.specs.Machine.{step, ended, stuck, Bounded, whole, deep, bounded}
+use Rattle.rp_tokens.proofs.Tests.{word_is, symbol_is}
 use Rattle.rp_parser.specs.declared.mark.Mark.{Mark}
 use Rattle.rp_parser.specs.declared.fault.Fault.{Fault}
 use Rattle.rp_parser.specs.declared.fault.Fault.TheVariants as fault
@@ -66,9 +68,27 @@ no_symbol m s t a (at x v ∷ ts) h e f = alike s t x v ts (f x v ∙ cond_false
 pub led_to : {X : Type 0} → (r : Result X Fault) (o p : Bounded) (f : X → Bounded) → o ≡ p → Gives r p f → Gives r o f
 led_to r o p f h g = subst (λ o. Gives r o f) (sym h) g
 
--- where what is held is let go
-pub let_go : (e l : Fault) (o : Bounded) → l ≡ e → Faults e o → Faults l o
-let_go e l o h g = subst (λ e. Faults e o) (sym h) g
-
 pub marks_longer : (ms rest : List Mark) → length ms ≡ suc (length rest) → length (toks ms) ≡ suc (length rest)
 marks_longer ms rest h = length_toks ms ∙ h
+
+abbrev unword : Word → Terminal → Word
+unword w (word v) = v
+unword w _ = w
+
+abbrev unsymbol : Symbol → Terminal → Symbol
+unsymbol m (symbol n) = n
+unsymbol m _ = m
+
+-- another word
+pub not_word : (w v : Word) → (v ≡ w → ⊥) → is_word w (word v) ≡ false
+not_word w v h = go (is_word w (word v)) refl where
+  go : (b : Bool) → is_word w (word v) ≡ b → is_word w (word v) ≡ false
+  go true e = absurd (h (ap (unword w) (word_is w (word v) e)))
+  go false e = e
+
+-- another symbol
+pub not_symbol : (m n : Symbol) → (n ≡ m → ⊥) → is_symbol m (symbol n) ≡ false
+not_symbol m n h = go (is_symbol m (symbol n)) refl where
+  go : (b : Bool) → is_symbol m (symbol n) ≡ b → is_symbol m (symbol n) ≡ false
+  go true e = absurd (h (ap (unsymbol m) (symbol_is m (symbol n) e)))
+  go false e = e

@@ -1,5 +1,3 @@
-ghost use Rattle.std.specs.Prelude.{◌≡◌};
-
 use rp_value::Memory;
 
 /// Why the tokens are not read. A place is how many tokens are left, with the one that is named.
@@ -21,11 +19,4 @@ impl From<Memory> for Fault {
     fn from(_error: Memory) -> Fault {
         Fault::Memory
     }
-}
-
-/// The fault, where what is held is let go. Its destructor stands here once, and not at each exit.
-pub(crate) fn lost<T: Drop>(held: T, fault: Fault) -> Fault
-    ensures { result ≡ fault }
-{
-    fault
 }

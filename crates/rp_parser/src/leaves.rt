@@ -1,16 +1,24 @@
 //! Names, and expressions of one or two tokens.
 
-ghost use Rattle.std.specs.Prelude.{◌≡◌, ℕ, ◌≤◌, pos, neg_ℤ, ◌<◌, [], ◌∷◌, ◌++◌, IfOk, IfSome, MatchOption, length};
+ghost use Rattle.std.specs.Prelude.{◌≡◌, ℕ, ◌≤◌, pos, neg_ℤ, ◌<◌, [], ◌∷◌, ◌++◌, IfOk, IfSome, MatchOption, length, false};
 ghost use Rattle.rp_grammar.specs.Trees.{ident as ident_tree, ExprTree, ExprForm};
 ghost use Rattle.rp_grammar.specs.Trees.{ParamTree};
 ghost use Rattle.rp_grammar.specs.Exprs.{quantified as quantified_form};
+ghost use Rattle.rp_grammar.specs.declared.terminal.Symbol.{Symbol as SymbolValue};
+ghost use Rattle.rp_grammar.specs.Parts.{Part, part};
 ghost use Rattle.rp_grammar.specs.Toks.{escaped as escaped_byte};
 ghost use Rattle.rp_ast.specs.View.{ident_view, param_view, expr_view};
+ghost use Rattle.rp_tokens.specs.MachineStates.{State};
+ghost use Rattle.rp_tokens.specs.Machine.{Bounded};
 ghost use Rattle.rp_parser.specs.means.Marks.{meant};
+ghost use Rattle.rp_parser.specs.means.Reading.{Stands, Within, left, next_of};
 ghost use Rattle.rp_parser.specs.means.ExprStarts.{leaf_form, quantifier_of};
 ghost use Rattle.rp_parser.specs.means.Signs.{sum_form};
 
 use crate::expr_starts::{Leaf, QuantifierKind};
+use crate::fault::Fault;
+use crate::mark::Rest;
+use crate::rest::nowhere;
 use crate::signs::SumSign;
 use rp_ast::build::expr;
 use rp_ast::{ExprNode, Ident, Param};
@@ -39,7 +47,9 @@ fn first_meant(inside: &[u8]) -> Option<(u8, &[u8])>
         (λ x. meant inside.now ≡ x.0 ∷ meant x.1.now) }
     ensures shorter { IfSome result (λ x. length x.1.now < length inside.now) }
 {
-    let (first, rest) = inside.split_first()?;
+    let Some((first, rest)) = inside.split_first() else {
+        return None;
+    };
     if *first != b'\\' {
         return Some((*first, rest));
     }
@@ -113,5 +123,29 @@ pub(crate) fn sum(
     match sign {
         SumSign::Plus => expr::plus(alloc, span, left, right),
         SumSign::Minus => expr::minus(alloc, span, left, right),
+    }
+}
+
+/// What stands in for an expression behind a fault.
+pub(crate) fn no_expr() -> ExprNode {
+    expr::tx(nowhere())
+}
+
+/// A node that was made, with its extent.
+pub(crate) fn extended<'a>(
+    node: Result<ExprNode, Memory>,
+    extent: Span,
+    rest: Rest<'a>,
+) -> (ExprNode, Span, Rest<'a>)
+    ensures within { (d : ℕ) → Within d rest.entry → Within d result.2 }
+    ensures no_longer { left result.2 ≤ left rest.entry }
+    ensures next { (m : SymbolValue) → next_of m rest.entry ≡ false → next_of m result.2 ≡ false }
+    ensures reads { (o : Bounded) (e : ExprTree) (k : Part ExprTree → State)
+        → IfOk node (λ x. expr_view x ≡ e) → Stands rest.entry (k (part e extent)) o
+        → Stands result.2 (k (part (expr_view result.0) result.1)) o }
+{
+    match node {
+        Ok(whole) => (whole, extent, rest),
+        Err(_) => (no_expr(), extent, Rest::Failed(Fault::Memory)),
     }
 }

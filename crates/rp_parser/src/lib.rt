@@ -2,6 +2,7 @@
 //! token that no program goes on with, or the first one that is nested too deep.
 #![tactic(auto)]
 
+mod accesses;
 mod decl_starts;
 mod decls;
 mod error;
@@ -11,13 +12,16 @@ mod fault;
 mod leaves;
 mod mark;
 mod next;
+mod operands;
 mod patterns;
 mod reading;
+mod rest;
 mod sentences;
 mod signs;
 mod starts;
 mod stmt_starts;
 mod stmts;
+mod sums;
 mod text;
 mod types;
 

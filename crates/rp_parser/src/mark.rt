@@ -1,5 +1,6 @@
 //! Tokens with what they say.
 
+use crate::fault::Fault;
 use rp_grammar::{Symbol, Word};
 use rp_span::Span;
 
@@ -25,3 +26,12 @@ pub(crate) struct Mark<'a> {
 
 /// Tokens that are not read yet.
 pub(crate) type Marks<'a> = &'a [Mark<'a>];
+
+/// What is left behind what was read.
+#[derive(Clone, Copy)]
+pub(crate) enum Rest<'a> {
+    /// The marks that are not read yet.
+    Left(Marks<'a>),
+    /// Nothing more is read.
+    Failed(Fault),
+}

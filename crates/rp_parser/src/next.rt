@@ -41,7 +41,9 @@ pub(crate) fn behind(marks: Marks, symbol: Symbol) -> Option<(Span, Marks)>
         (λ x. toks marks.now ≡ at (symbol_terminal symbol) x.0 ∷ toks x.1.now) }
     ensures shorter { IfSome result (λ x. length x.1.now < length marks.now) }
 {
-    let (first, rest) = marks.split_first()?;
+    let Some((first, rest)) = marks.split_first() else {
+        return None;
+    };
     let Kind::Symbol(found) = first.kind else {
         return None;
     };
@@ -58,7 +60,9 @@ pub(crate) fn word_behind(marks: Marks, word: Word) -> Option<(Span, Marks)>
         (λ x. toks marks.now ≡ at (word_terminal word) x.0 ∷ toks x.1.now) }
     ensures shorter { IfSome result (λ x. length x.1.now < length marks.now) }
 {
-    let (first, rest) = marks.split_first()?;
+    let Some((first, rest)) = marks.split_first() else {
+        return None;
+    };
     let Kind::Word(found) = first.kind else {
         return None;
     };
@@ -115,7 +119,9 @@ pub(crate) fn comma(marks: Marks, depth: u32) -> Option<Marks>
         (λ n. more_names d (ns ++ n ∷ []) k)) (toks rest.now)) }
     ensures shorter { IfSome result (λ rest. length rest.now < length marks.now) }
 {
-    let (_, rest) = behind(marks, Symbol::Comma)?;
+    let Some((_, rest)) = behind(marks, Symbol::Comma) else {
+        return None;
+    };
     Some(rest)
 }
 

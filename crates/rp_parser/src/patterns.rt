@@ -8,14 +8,15 @@ ghost use Rattle.rp_grammar.specs.Trees.{Ident as IdentTree, ident, PatternTree}
 ghost use Rattle.rp_ast.specs.View.{ident_view, pattern_view};
 ghost use Rattle.rp_tokens.specs.MachineStates.{State, to, want_symbol, want_name, want_pattern, more_names};
 ghost use Rattle.rp_tokens.specs.MachineExprs.{pattern_step, in_pattern};
-ghost use Rattle.rp_tokens.specs.Machine.{bounded};
+ghost use Rattle.rp_tokens.specs.Machine.{Bounded, bounded};
 ghost use Rattle.rp_parser.specs.means.Marks.{terminal_of, toks};
-ghost use Rattle.rp_parser.specs.means.Reading.{Gives};
+ghost use Rattle.rp_parser.specs.means.Reading.{Gives, Stands, Within, left};
 
 use crate::fault::Fault;
 use crate::leaves;
-use crate::mark::{Kind, Marks};
-use crate::next::{MAX_DEPTH, comma, name, optional, symbol};
+use crate::mark::{Kind, Marks, Rest};
+use crate::next::MAX_DEPTH;
+use crate::rest::{comma, name, no_name, optional, pushed, symbol};
 use rp_ast::{Ident, PatternNode};
 use rp_grammar::{Symbol, Word};
 use rp_value::List;
@@ -60,65 +61,80 @@ fn pattern_first(alloc: Global, marks: Marks, depth: u32) -> Result<(Ident, Mark
     Ok((leaves::ident(alloc, first.span, bytes)?, rest))
 }
 
+/// The constructor of a pattern, which has to be next.
+fn read_constructor<'a>(alloc: Global, rest: Rest<'a>, depth: u32) -> (Ident, Rest<'a>)
+    ensures within { Within depth result.1 }
+    ensures no_longer { left result.1 ≤ left rest.entry }
+    ensures reads { (o : Bounded) (d : ℕ) → d ≡ depth → (k : PatternTree → State)
+        → Stands rest.entry (want_pattern d k) o
+        → Stands result.1 (in_pattern d (ident_view result.0) k) o }
+{
+    let Rest::Left(marks) = rest else {
+        return (no_name(alloc), rest);
+    };
+    match pattern_first(alloc, marks, depth) {
+        Ok((con, after)) => (con, Rest::Left(after)),
+        Err(fault) => (no_name(alloc), Rest::Failed(fault)),
+    }
+}
+
 /// Names with commas between them, one at least.
-fn read_names(alloc: Global, marks: Marks, depth: u32) -> Result<(List<Ident>, Marks), Fault>
-    requires { depth ≤ 65 }
-    ensures shallow { IfOk result (λ _. depth ≤ 64) }
-    ensures shorter { IfOk result (λ x. length x.1.now < length marks.now) }
-    ensures reads { (d : ℕ) → d ≡ depth → (k : Items IdentTree → State)
-        → Gives result (bounded 64 (want_name d (λ n. more_names d (n ∷ []) k)) (toks marks.now))
-        (λ x. bounded 64 (k (map ident_view x.0)) (toks x.1.now)) }
+fn read_names<'a>(alloc: Global, marks: Rest<'a>, depth: u32) -> (List<Ident>, Rest<'a>)
+    ensures within { Within depth result.1 }
+    ensures no_longer { left result.1 ≤ left marks.entry }
+    ensures reads { (o : Bounded) (d : ℕ) → d ≡ depth → (k : Items IdentTree → State)
+        → Stands marks.entry (want_name d (λ n. more_names d (n ∷ []) k)) o
+        → Stands result.1 (k (map ident_view result.0)) o }
 {
     let mut names = List::new(alloc);
-    let (first, mut rest) = name(alloc, marks, depth)?;
-    names.push(first)?;
-    loop {
+    let (first, after) = name(alloc, marks, depth);
+    let mut rest = pushed(&mut names, first, after);
+    'names: loop {
         let Some(after) = comma(rest, depth) else {
-            return Ok((names, rest));
+            return (names, rest);
         };
-        let (name, end) = name(alloc, after, depth)?;
-        names.push(name)?;
-        rest = end;
+        let (name, end) = name(alloc, Rest::Left(after), depth);
+        rest = pushed(&mut names, name, end);
     }
 }
 
 /// The variables of a pattern, behind its constructor.
-pub(crate) fn read_variables(
+pub(crate) fn read_variables<'a>(
     alloc: Global,
     con: Ident,
-    marks: Marks,
+    rest: Rest<'a>,
     depth: u32,
-) -> Result<(PatternNode, Marks), Fault>
-    requires { depth ≤ 64 }
-    ensures no_longer { IfOk result (λ x. length x.1.now ≤ length marks.now) }
-    ensures reads { (d : ℕ) → d ≡ depth → (k : PatternTree → State)
-        → Gives result (bounded 64 (in_pattern d (ident_view con) k) (toks marks.now))
-        (λ x. bounded 64 (k (pattern_view x.0)) (toks x.1.now)) }
+) -> (PatternNode, Rest<'a>)
+    requires within { Within depth rest }
+    ensures within { Within depth result.1 }
+    ensures no_longer { left result.1 ≤ left rest.entry }
+    ensures reads { (o : Bounded) (d : ℕ) → d ≡ depth → (k : PatternTree → State)
+        → Stands rest.entry (in_pattern d (ident_view con) k) o
+        → Stands result.1 (k (pattern_view result.0)) o }
 {
-    let Some((_, inside)) = optional(marks, Symbol::OpenParen, depth) else {
+    let Some((_, inside)) = optional(rest, Symbol::OpenParen, depth) else {
         let vars = List::new(alloc);
-        return Ok((PatternNode { con, vars }, marks));
+        return (PatternNode { con, vars }, rest);
     };
-    let (vars, after) = read_names(alloc, inside, depth + 1)?;
-    let (_, end) = symbol(after, Symbol::CloseParen, depth)?;
-    Ok((PatternNode { con, vars }, end))
+    let (vars, after) = read_names(alloc, Rest::Left(inside), depth + 1);
+    let (_, end) = symbol(after, Symbol::CloseParen, depth);
+    (PatternNode { con, vars }, end)
 }
 
 /// A pattern and the arrow behind it.
-pub(crate) fn read_arm_pattern(
+pub(crate) fn read_arm_pattern<'a>(
     alloc: Global,
-    marks: Marks,
+    rest: Rest<'a>,
     depth: u32,
-) -> Result<(PatternNode, Marks), Fault>
-    requires { depth ≤ 65 }
-    ensures shallow { IfOk result (λ _. depth ≤ 64) }
-    ensures shorter { IfOk result (λ x. length x.1.now < length marks.now) }
-    ensures reads { (d : ℕ) → d ≡ depth → (k : PatternTree → State)
-        → Gives result (bounded 64 (want_pattern d (λ p. want_symbol symbols.Arrow refl d
-        (λ _. k p))) (toks marks.now)) (λ x. bounded 64 (k (pattern_view x.0)) (toks x.1.now)) }
+) -> (PatternNode, Rest<'a>)
+    ensures within { Within depth result.1 }
+    ensures no_longer { left result.1 ≤ left rest.entry }
+    ensures reads { (o : Bounded) (d : ℕ) → d ≡ depth → (k : PatternTree → State)
+        → Stands rest.entry (want_pattern d (λ p. want_symbol symbols.Arrow refl d (λ _. k p))) o
+        → Stands result.1 (k (pattern_view result.0)) o }
 {
-    let (con, rest) = pattern_first(alloc, marks, depth)?;
-    let (pattern, after) = read_variables(alloc, con, rest, depth)?;
-    let (_, end) = symbol(after, Symbol::Arrow, depth)?;
-    Ok((pattern, end))
+    let (con, after) = read_constructor(alloc, rest, depth);
+    let (pattern, after) = read_variables(alloc, con, after, depth);
+    let (_, end) = symbol(after, Symbol::Arrow, depth);
+    (pattern, end)
 }

@@ -6,14 +6,14 @@ ghost use Rattle.rp_span.specs.declared.Span.{Span as SpanValue};
 ghost use Rattle.rp_grammar.specs.Trees.{ident, ExprTree, BlockTree, StmtTree, BlockArmTree};
 ghost use Rattle.rp_tokens.specs.MachineStates.{State, to, in_stmts, in_block_arms, more_if};
 ghost use Rattle.rp_tokens.specs.MachineStmts.{stmt_step, stmt_word as stmt_word_step, want_else, alone};
-ghost use Rattle.rp_tokens.specs.Machine.{bounded};
+ghost use Rattle.rp_tokens.specs.Machine.{Bounded, bounded};
 ghost use Rattle.rp_parser.specs.means.Marks.{terminal_of, toks};
-ghost use Rattle.rp_parser.specs.means.Reading.{Gives, Moves};
+ghost use Rattle.rp_parser.specs.means.Reading.{Gives, Moves, Enters, Stands, left};
 ghost use Rattle.rp_parser.specs.means.Blocks.{in_arm};
 ghost use Rattle.rp_parser.specs.means.StmtStarts.{stmt_next, else_next, IsWithin};
 
 use crate::fault::Fault;
-use crate::mark::{Kind, Marks};
+use crate::mark::{Kind, Marks, Rest};
 use crate::next::{MAX_DEPTH, word_behind};
 use crate::patterns::constructor;
 use rp_grammar::Word;
@@ -63,7 +63,19 @@ fn stmt_start(kind: Kind) -> Option<StmtStart>
 }
 
 /// The first token of a statement, if one is next.
-pub(crate) fn stmt_sign(marks: Marks) -> Option<(StmtStart, Span, Marks)>
+pub(crate) fn stmt_sign(rest: Rest) -> Option<(StmtStart, Span, Marks)>
+    ensures shorter { IfSome result (λ x. length x.2.now < left rest.entry) }
+    ensures reads { (o : Bounded) (d : ℕ) (xs : Items StmtTree) (k : Items StmtTree → State)
+        → Stands rest.entry (in_stmts d xs k) o → MatchOption result (Stands rest.entry (k xs) o)
+        (λ x. Enters d o (stmt_next d (λ y. in_stmts d (xs ++ y ∷ []) k) x.1 x.0) x.2.now) }
+{
+    let Rest::Left(marks) = rest else {
+        return None;
+    };
+    stmt_next_mark(marks)
+}
+
+fn stmt_next_mark(marks: Marks) -> Option<(StmtStart, Span, Marks)>
     ensures shorter { IfSome result (λ x. length marks.now ≡ suc (length x.2.now)) }
     ensures reads { (d : ℕ) (xs : Items StmtTree) (k : Items StmtTree → State)
         → MatchOption result
@@ -71,13 +83,31 @@ pub(crate) fn stmt_sign(marks: Marks) -> Option<(StmtStart, Span, Marks)>
         (λ x. Moves d (in_stmts d xs k) (toks marks.now) (stmt_next d
         (λ y. in_stmts d (xs ++ y ∷ []) k) x.1 x.0) (toks x.2.now)) }
 {
-    let (first, rest) = marks.split_first()?;
-    let start = stmt_start(first.kind)?;
+    let Some((first, rest)) = marks.split_first() else {
+        return None;
+    };
+    let Some(start) = stmt_start(first.kind) else {
+        return None;
+    };
     Some((start, first.span, rest))
 }
 
 /// The constructor of an arm's pattern, if one is next.
-pub(crate) fn arm_sign(marks: Marks) -> Option<(&[u8], Span, Marks)>
+pub(crate) fn arm_sign(rest: Rest) -> Option<(&[u8], Span, Marks)>
+    ensures shorter { IfSome result (λ x. length x.2.now < left rest.entry) }
+    ensures reads { (o : Bounded) (d : ℕ) (as_ : Items BlockArmTree) (k : Items BlockArmTree → State)
+        → Stands rest.entry (in_block_arms d as_ k) o
+        → MatchOption result (Stands rest.entry (k as_) o)
+        (λ x. Enters d o (in_arm d (ident x.0.now x.1)
+        (λ a. in_block_arms d (as_ ++ a ∷ []) k)) x.2.now) }
+{
+    let Rest::Left(marks) = rest else {
+        return None;
+    };
+    arm_next_mark(marks)
+}
+
+fn arm_next_mark(marks: Marks) -> Option<(&[u8], Span, Marks)>
     ensures shorter { IfSome result (λ x. length marks.now ≡ suc (length x.2.now)) }
     ensures reads { (d : ℕ) (as_ : Items BlockArmTree) (k : Items BlockArmTree → State)
         → MatchOption result
@@ -85,16 +115,34 @@ pub(crate) fn arm_sign(marks: Marks) -> Option<(&[u8], Span, Marks)>
         (λ x. Moves d (in_block_arms d as_ k) (toks marks.now) (in_arm d (ident x.0.now x.1)
         (λ a. in_block_arms d (as_ ++ a ∷ []) k)) (toks x.2.now)) }
 {
-    let (first, rest) = marks.split_first()?;
-    let con = constructor(first.kind)?;
+    let Some((first, rest)) = marks.split_first() else {
+        return None;
+    };
+    let Some(con) = constructor(first.kind) else {
+        return None;
+    };
     Some((con, first.span, rest))
 }
 
 /// What follows the word `else`, if that is next.
-pub(crate) fn else_sign(marks: Marks, depth: u32) -> Option<Marks>
+pub(crate) fn else_sign(rest: Rest, depth: u32) -> Option<Marks>
     requires { depth ≤ 64 }
+    ensures shorter { IfSome result (λ after. length after.now < left rest.entry) }
+    ensures reads { (o : Bounded) (d : ℕ) → d ≡ depth
+        → (v : SpanValue) (e : ExprTree) (b : BlockTree) (k : StmtTree → State)
+        → Stands rest.entry (more_if d v e b k) o
+        → MatchOption result (Stands rest.entry (k (alone v e b)) o)
+        (λ after. o ≡ bounded 64 (want_else d v e b k) (toks after.now)) }
+{
+    let Rest::Left(marks) = rest else {
+        return None;
+    };
+    else_next_mark(marks)
+}
+
+fn else_next_mark(marks: Marks) -> Option<Marks>
     ensures shorter { IfSome result (λ rest. length rest.now < length marks.now) }
-    ensures reads { (d : ℕ) → d ≡ depth
+    ensures reads { (d : ℕ) → d ≤ 64
         → (v : SpanValue) (e : ExprTree) (b : BlockTree) (k : StmtTree → State)
         → MatchOption result
         (bounded 64 (more_if d v e b k) (toks marks.now)
@@ -102,7 +150,9 @@ pub(crate) fn else_sign(marks: Marks, depth: u32) -> Option<Marks>
         (λ rest. bounded 64 (more_if d v e b k) (toks marks.now)
         ≡ bounded 64 (want_else d v e b k) (toks rest.now)) }
 {
-    let (_, rest) = word_behind(marks, Word::Else)?;
+    let Some((_, rest)) = word_behind(marks, Word::Else) else {
+        return None;
+    };
     Some(rest)
 }
 

@@ -1,30 +1,30 @@
 //! Statements and blocks.
+#![tactic(auto, using(crate::proofs::Rests::within_all))]
 
 ghost use Rattle.std.specs.Prelude.{List as Items};
-ghost use Rattle.std.specs.Prelude.{◌≡◌, ℕ, suc, ◌<◌, ◌≤◌, [], IfOk, length, map};
+ghost use Rattle.std.specs.Prelude.{◌≡◌, ℕ, ◌<◌, ◌≤◌, [], map, length};
 ghost use Rattle.rp_span.specs.declared.Span.{Span as SpanValue};
 ghost use Rattle.rp_grammar.specs.Parts.{join as join_spans};
 ghost use Rattle.rp_grammar.specs.Trees.{ident as ident_tree, ExprTree, BlockTree, StmtTree, StmtForm, BlockArmTree};
-ghost use Rattle.rp_grammar.specs.Terminals.{Tok};
 ghost use Rattle.rp_grammar.specs.Stmts.{block_span, stmt_span};
 ghost use Rattle.rp_ast.specs.View.{ident_view, stmt_view, block_view, block_arm_view, else_view};
 ghost use Rattle.rp_tokens.specs.MachineStates.{State, in_stmts, in_block_arms};
 ghost use Rattle.rp_tokens.specs.MachineStmts.{want_block, want_else, in_if, in_match};
-ghost use Rattle.rp_tokens.specs.Machine.{bounded};
-ghost use Rattle.rp_parser.specs.means.Marks.{toks};
-ghost use Rattle.rp_parser.specs.means.Reading.{Gives, Moves};
-ghost use Rattle.rp_parser.specs.means.StmtStarts.{stmt_next};
+ghost use Rattle.rp_tokens.specs.Machine.{Bounded};
+ghost use Rattle.rp_parser.specs.means.Reading.{Stands, Enters, left};
+ghost use Rattle.rp_parser.specs.means.StmtStarts.{stmt_next, in_atomic, in_assert, in_else_if, want_else_block};
 ghost use Rattle.rp_parser.specs.means.Blocks.{in_arm};
 
-use crate::fault::{Fault, lost};
+use crate::fault::Fault;
 use crate::leaves::ident;
-use crate::mark::Marks;
-use crate::next::{MAX_DEPTH, join, symbol};
+use crate::mark::{Marks, Rest};
+use crate::next::{MAX_DEPTH, join};
 use crate::patterns::read_variables;
+use crate::rest::{made, no_name, nowhere, pushed, symbol};
 use crate::sentences::{read_named, read_parens, read_return, read_sentence, read_var};
 use crate::stmt_starts::{ElseStart, StmtStart, arm_sign, else_first, else_sign, stmt_sign};
 use rp_ast::build::stmt;
-use rp_ast::{Block, BlockArm, ElseNode, Ident, StmtNode};
+use rp_ast::{Block, BlockArm, ElseNode, Ident, PatternNode, StmtNode};
 use rp_grammar::Symbol;
 use rp_span::Span;
 use rp_value::List;
@@ -44,43 +44,60 @@ fn span_of_stmt(stmt: &StmtNode) -> Span
     stmt.span
 }
 
+/// What stands in for a block behind a fault.
+fn no_block(alloc: Global) -> Block {
+    stmt::block(nowhere(), List::new(alloc))
+}
+
+/// What stands in for an arm behind a fault.
+fn no_arm(alloc: Global) -> BlockArm {
+    let con = no_name(alloc);
+    let vars = List::new(alloc);
+    let pattern = PatternNode { con, vars };
+    stmt::arm(pattern, no_block(alloc))
+}
+
+/// What stands in for an `else` behind a fault.
+fn no_else(alloc: Global) -> ElseNode {
+    stmt::else_block(no_block(alloc))
+}
+
 #[cycle(stmts)]
-pub(crate) fn read_block(alloc: Global, marks: Marks, depth: u32) -> Result<(Block, Marks), Fault>
+pub(crate) fn read_block<'a>(alloc: Global, rest: Rest<'a>, depth: u32) -> (Block, Rest<'a>)
     requires { depth ≤ 64 }
-    ensures shorter { IfOk result (λ x. length x.1.now < length marks.now) }
-    ensures reads { (d : ℕ) → d ≡ depth → (k : BlockTree → State)
-        → Gives result (bounded 64 (want_block d k) (toks marks.now))
-        (λ x. bounded 64 (k (block_view x.0)) (toks x.1.now)) }
+    ensures no_longer { left result.1 ≤ left rest.entry }
+    ensures reads { (o : Bounded) (d : ℕ) → d ≡ depth → (k : BlockTree → State)
+        → Stands rest.entry (want_block d k) o
+        → Stands result.1 (k (block_view result.0)) o }
 {
-    let (open, inside) = symbol(marks, Symbol::OpenBrace, depth)?;
-    let (stmts, after) = read_stmts(alloc, inside, depth + 1)?;
-    let (close, end) = symbol(after, Symbol::CloseBrace, depth)?;
+    let (open, inside) = symbol(rest, Symbol::OpenBrace, depth);
+    let (stmts, after) = read_stmts(alloc, inside, depth + 1);
+    let (close, end) = symbol(after, Symbol::CloseBrace, depth);
     let span = join(open, close);
-    Ok((stmt::block(span, stmts), end))
+    (stmt::block(span, stmts), end)
 }
 
 /// All statements that are next.
 #[cycle(stmts)]
-fn read_stmts(alloc: Global, marks: Marks, depth: u32) -> Result<(List<StmtNode>, Marks), Fault>
+fn read_stmts<'a>(alloc: Global, rest: Rest<'a>, depth: u32) -> (List<StmtNode>, Rest<'a>)
     requires { depth ≤ 65 }
-    ensures no_longer { IfOk result (λ x. length x.1.now ≤ length marks.now) }
-    ensures reads { (d : ℕ) → d ≡ depth → (k : Items StmtTree → State)
-        → Gives result (bounded 64 (in_stmts d [] k) (toks marks.now))
-        (λ x. bounded 64 (k (map stmt_view x.0)) (toks x.1.now)) }
+    ensures no_longer { left result.1 ≤ left rest.entry }
+    ensures reads { (o : Bounded) (d : ℕ) → d ≡ depth → (k : Items StmtTree → State)
+        → Stands rest.entry (in_stmts d [] k) o
+        → Stands result.1 (k (map stmt_view result.0)) o }
 {
     let mut stmts = List::new(alloc);
-    let Some((start, span, after)) = stmt_sign(marks) else {
-        return Ok((stmts, marks));
+    let Some((start, span, after)) = stmt_sign(rest) else {
+        return (stmts, rest);
     };
-    let (first, mut rest) = read_next_stmt(alloc, start, span, after, depth)?;
-    stmts.push(first)?;
+    let (first, after) = read_next_stmt(alloc, start, span, after, depth);
+    let mut behind = pushed(&mut stmts, first, after);
     'stmts: loop {
-        let Some((start, span, after)) = stmt_sign(rest) else {
-            return Ok((stmts, rest));
+        let Some((start, span, after)) = stmt_sign(behind) else {
+            return (stmts, behind);
         };
-        let (stmt, end) = read_next_stmt(alloc, start, span, after, depth)?;
-        stmts.push(stmt)?;
-        rest = end;
+        let (stmt, end) = read_next_stmt(alloc, start, span, after, depth);
+        behind = pushed(&mut stmts, stmt, end);
     }
 }
 
@@ -92,18 +109,18 @@ fn read_next_stmt<'a>(
     start_span: Span,
     marks: Marks<'a>,
     depth: u32,
-) -> Result<(StmtNode, Marks<'a>), Fault>
+) -> (StmtNode, Rest<'a>)
     requires { depth ≤ 65 }
-    ensures shorter { IfOk result (λ x. length x.1.now < length marks.now) }
-    ensures reads { (d : ℕ) → d ≡ depth → (k : StmtTree → State) (s : State) (ts : Items Tok)
-        → length ts ≡ suc (length marks.now)
-        → Moves d s ts (stmt_next d k start_span start.entry) (toks marks.now)
-        → Gives result (bounded 64 s ts) (λ x. bounded 64 (k (stmt_view x.0)) (toks x.1.now)) }
+    ensures no_longer { left result.1 ≤ length marks.now }
+    ensures reads { (o : Bounded) (d : ℕ) → d ≡ depth → (k : StmtTree → State)
+        → Enters d o (stmt_next d k start_span start.entry) marks.now
+        → Stands result.1 (k (stmt_view result.0)) o }
 {
     if depth > MAX_DEPTH {
-        return Err(Fault::TooDeep(marks.len() + 1));
+        let fault = Fault::TooDeep(marks.len() + 1);
+        return (stmt::return_(nowhere(), None), Rest::Failed(fault));
     }
-    read_stmt(alloc, start, start_span, marks, depth)
+    read_stmt(alloc, start, start_span, Rest::Left(marks), depth)
 }
 
 /// A statement, behind its first token.
@@ -112,142 +129,177 @@ fn read_stmt<'a>(
     alloc: Global,
     start: StmtStart,
     start_span: Span,
-    marks: Marks<'a>,
+    rest: Rest<'a>,
     depth: u32,
-) -> Result<(StmtNode, Marks<'a>), Fault>
+) -> (StmtNode, Rest<'a>)
     requires { depth ≤ 64 }
-    ensures shorter { IfOk result (λ x. length x.1.now < length marks.now) }
-    ensures reads { (d : ℕ) → d ≡ depth → (k : StmtTree → State)
-        → Gives result (bounded 64 (stmt_next d k start_span start.entry) (toks marks.now))
-        (λ x. bounded 64 (k (stmt_view x.0)) (toks x.1.now)) }
+    ensures no_longer { left result.1 ≤ left rest.entry }
+    ensures reads { (o : Bounded) (d : ℕ) → d ≡ depth → (k : StmtTree → State)
+        → Stands rest.entry (stmt_next d k start_span start.entry) o
+        → Stands result.1 (k (stmt_view result.0)) o }
 {
     match start {
         StmtStart::Name(bytes) => {
-            let name = ident(alloc, start_span, bytes)?;
-            read_named(alloc, name, marks, depth)
+            let name = ident(alloc, start_span, bytes);
+            let (name, after) = made(name, no_name(alloc), rest);
+            read_named(alloc, name, after, depth)
         }
-        StmtStart::Var => read_var(alloc, start_span, marks, depth),
-        StmtStart::If => read_if(alloc, start_span, marks, depth),
-        StmtStart::Match => read_match(alloc, start_span, marks, depth),
-        StmtStart::Atomic => {
-            let (body, end) = read_block(alloc, marks, depth)?;
-            let span = join(start_span, span_of_block(&body));
-            Ok((stmt::atomic(span, body), end))
-        }
-        StmtStart::Assert => {
-            let (condition, close, end) = read_sentence(alloc, marks, depth)?;
-            let span = join(start_span, close);
-            Ok((stmt::assert_(span, condition), end))
-        }
-        StmtStart::Return => read_return(alloc, start_span, marks, depth),
+        StmtStart::Var => read_var(alloc, start_span, rest, depth),
+        StmtStart::If => read_if(alloc, start_span, rest, depth),
+        StmtStart::Match => read_match(alloc, start_span, rest, depth),
+        StmtStart::Atomic => read_atomic(alloc, start_span, rest, depth),
+        StmtStart::Assert => read_assert(alloc, start_span, rest, depth),
+        StmtStart::Return => read_return(alloc, start_span, rest, depth),
     }
+}
+
+/// What follows the word `atomic` at `start`.
+#[cycle(stmts)]
+fn read_atomic<'a>(alloc: Global, start: Span, rest: Rest<'a>, depth: u32) -> (StmtNode, Rest<'a>)
+    requires { depth ≤ 64 }
+    ensures no_longer { left result.1 ≤ left rest.entry }
+    ensures reads { (o : Bounded) (d : ℕ) → d ≡ depth → (k : StmtTree → State)
+        → Stands rest.entry (in_atomic d start k) o
+        → Stands result.1 (k (stmt_view result.0)) o }
+{
+    let (body, end) = read_block(alloc, rest, depth);
+    let span = join(start, span_of_block(&body));
+    (stmt::atomic(span, body), end)
+}
+
+/// What follows the word `assert` at `start`.
+fn read_assert<'a>(alloc: Global, start: Span, rest: Rest<'a>, depth: u32) -> (StmtNode, Rest<'a>)
+    requires { depth ≤ 64 }
+    ensures no_longer { left result.1 ≤ left rest.entry }
+    ensures reads { (o : Bounded) (d : ℕ) → d ≡ depth → (k : StmtTree → State)
+        → Stands rest.entry (in_assert d start k) o
+        → Stands result.1 (k (stmt_view result.0)) o }
+{
+    let (condition, close, end) = read_sentence(alloc, rest, depth);
+    let span = join(start, close);
+    (stmt::assert_(span, condition), end)
 }
 
 /// What follows the word `if` at `start`.
 #[cycle(stmts)]
-fn read_if(alloc: Global, start: Span, marks: Marks, depth: u32) -> Result<(StmtNode, Marks), Fault>
+fn read_if<'a>(alloc: Global, start: Span, rest: Rest<'a>, depth: u32) -> (StmtNode, Rest<'a>)
     requires { depth ≤ 64 }
-    ensures shorter { IfOk result (λ x. length x.1.now < length marks.now) }
-    ensures reads { (d : ℕ) → d ≡ depth → (k : StmtTree → State)
-        → Gives result (bounded 64 (in_if d start k) (toks marks.now))
-        (λ x. bounded 64 (k (stmt_view x.0)) (toks x.1.now)) }
+    ensures no_longer { left result.1 ≤ left rest.entry }
+    ensures reads { (o : Bounded) (d : ℕ) → d ≡ depth → (k : StmtTree → State)
+        → Stands rest.entry (in_if d start k) o
+        → Stands result.1 (k (stmt_view result.0)) o }
 {
-    let (condition, _extent, _close, after) = read_parens(alloc, marks, depth)?;
-    let (body, after) = match read_block(alloc, after, depth) {
-        Ok(read) => read,
-        Err(fault) => return Err(lost(condition, fault)),
-    };
-    let Some(behind_else) = else_sign(after, depth) else {
+    let (condition, _extent, _close, after) = read_parens(alloc, rest, depth);
+    let (body, after) = read_block(alloc, after, depth);
+    let Some(behind) = else_sign(after, depth) else {
         let span = join(start, span_of_block(&body));
-        return Ok((stmt::if_(span, condition, body, None), after));
+        return (stmt::if_(span, condition, body, None), after);
     };
-    let (otherwise, last, end) = match read_else(alloc, behind_else, depth) {
-        Ok(read) => read,
-        Err(fault) => return Err(lost(condition, lost(body, fault))),
-    };
+    let (otherwise, last, end) = read_else(alloc, Rest::Left(behind), depth);
     let span = join(start, last);
-    Ok((stmt::if_(span, condition, body, Some(otherwise)), end))
+    (stmt::if_(span, condition, body, Some(otherwise)), end)
 }
 
 /// What follows the word `else`; with its span.
 #[cycle(stmts)]
-fn read_else(alloc: Global, marks: Marks, depth: u32) -> Result<(ElseNode, Span, Marks), Fault>
+fn read_else<'a>(alloc: Global, rest: Rest<'a>, depth: u32) -> (ElseNode, Span, Rest<'a>)
     requires { depth ≤ 64 }
-    ensures shorter { IfOk result (λ x. length x.2.now < length marks.now) }
-    ensures reads { (d : ℕ) → d ≡ depth
-        → (v : SpanValue) (e : ExprTree) (b : BlockTree) (k : StmtTree → State)
-        → Gives result (bounded 64 (want_else d v e b k) (toks marks.now))
-        (λ x. bounded 64 (k (StmtTree.node (join_spans v x.1) (StmtForm.if_ e b (else_view x.0))))
-        (toks x.2.now)) }
+    ensures no_longer { left result.2 ≤ left rest.entry }
+    ensures reads { (o : Bounded) (d : ℕ) → d ≡ depth →
+        (v : SpanValue) (e : ExprTree) (b : BlockTree) (k : StmtTree → State)
+        → Stands rest.entry (want_else d v e b k) o
+        → Stands result.2 (k (StmtTree.node (join_spans v result.1)
+        (StmtForm.if_ e b (else_view result.0)))) o }
 {
-    let (start, rest) = else_first(marks, depth)?;
-    match start {
-        ElseStart::If(span) => {
-            let (branch, end) = read_if(alloc, span, rest, depth + 1)?;
-            let last = span_of_stmt(&branch);
-            Ok((stmt::else_if(alloc, branch)?, last, end))
-        }
-        ElseStart::Block => {
-            let (body, end) = read_block(alloc, rest, depth)?;
-            let last = span_of_block(&body);
-            Ok((stmt::else_block(body), last, end))
-        }
+    let Rest::Left(marks) = rest else {
+        return (no_else(alloc), nowhere(), rest);
+    };
+    match else_first(marks, depth) {
+        Ok((start, after)) => match start {
+            ElseStart::If(span) => read_else_if(alloc, span, Rest::Left(after), depth),
+            ElseStart::Block => read_else_block(alloc, Rest::Left(after), depth),
+        },
+        Err(fault) => (no_else(alloc), nowhere(), Rest::Failed(fault)),
     }
+}
+
+/// What follows the word `if` at `start`, behind an `else`; with the span of the statement.
+#[cycle(stmts)]
+fn read_else_if<'a>(
+    alloc: Global,
+    start: Span,
+    rest: Rest<'a>,
+    depth: u32,
+) -> (ElseNode, Span, Rest<'a>)
+    requires { depth < 64 }
+    ensures no_longer { left result.2 ≤ left rest.entry }
+    ensures reads { (o : Bounded) (d : ℕ) → d ≡ depth →
+        (v : SpanValue) (e : ExprTree) (b : BlockTree) (k : StmtTree → State)
+        → Stands rest.entry (in_else_if d v e b k start) o
+        → Stands result.2 (k (StmtTree.node (join_spans v result.1)
+        (StmtForm.if_ e b (else_view result.0)))) o }
+{
+    let (branch, end) = read_if(alloc, start, rest, depth + 1);
+    let last = span_of_stmt(&branch);
+    let node = stmt::else_if(alloc, branch);
+    let (node, end) = made(node, no_else(alloc), end);
+    (node, last, end)
+}
+
+/// The block behind an `else`; with its span.
+#[cycle(stmts)]
+fn read_else_block<'a>(alloc: Global, rest: Rest<'a>, depth: u32) -> (ElseNode, Span, Rest<'a>)
+    requires { depth ≤ 64 }
+    ensures no_longer { left result.2 ≤ left rest.entry }
+    ensures reads { (o : Bounded) (d : ℕ) → d ≡ depth →
+        (v : SpanValue) (e : ExprTree) (b : BlockTree) (k : StmtTree → State)
+        → Stands rest.entry (want_else_block d v e b k) o
+        → Stands result.2 (k (StmtTree.node (join_spans v result.1)
+        (StmtForm.if_ e b (else_view result.0)))) o }
+{
+    let (body, end) = read_block(alloc, rest, depth);
+    let last = span_of_block(&body);
+    (stmt::else_block(body), last, end)
 }
 
 /// What follows the word `match` at `start`.
 #[cycle(stmts)]
-fn read_match(
-    alloc: Global,
-    start: Span,
-    marks: Marks,
-    depth: u32,
-) -> Result<(StmtNode, Marks), Fault>
+fn read_match<'a>(alloc: Global, start: Span, rest: Rest<'a>, depth: u32) -> (StmtNode, Rest<'a>)
     requires { depth ≤ 64 }
-    ensures shorter { IfOk result (λ x. length x.1.now < length marks.now) }
-    ensures reads { (d : ℕ) → d ≡ depth → (k : StmtTree → State)
-        → Gives result (bounded 64 (in_match d start k) (toks marks.now))
-        (λ x. bounded 64 (k (stmt_view x.0)) (toks x.1.now)) }
+    ensures no_longer { left result.1 ≤ left rest.entry }
+    ensures reads { (o : Bounded) (d : ℕ) → d ≡ depth → (k : StmtTree → State)
+        → Stands rest.entry (in_match d start k) o
+        → Stands result.1 (k (stmt_view result.0)) o }
 {
-    let (value, _extent, _close, after) = read_parens(alloc, marks, depth)?;
-    let (_, inside) = match symbol(after, Symbol::OpenBrace, depth) {
-        Ok(read) => read,
-        Err(fault) => return Err(lost(value, fault)),
-    };
-    let (arms, after) = match read_arms(alloc, inside, depth + 1) {
-        Ok(read) => read,
-        Err(fault) => return Err(lost(value, fault)),
-    };
-    let (close, end) = match symbol(after, Symbol::CloseBrace, depth) {
-        Ok(read) => read,
-        Err(fault) => return Err(lost(value, fault)),
-    };
+    let (value, _extent, _close, after) = read_parens(alloc, rest, depth);
+    let (_, inside) = symbol(after, Symbol::OpenBrace, depth);
+    let (arms, after) = read_arms(alloc, inside, depth + 1);
+    let (close, end) = symbol(after, Symbol::CloseBrace, depth);
     let span = join(start, close);
-    Ok((stmt::match_(span, value, arms), end))
+    (stmt::match_(span, value, arms), end)
 }
 
 /// All arms that are next.
 #[cycle(stmts)]
-fn read_arms(alloc: Global, marks: Marks, depth: u32) -> Result<(List<BlockArm>, Marks), Fault>
+fn read_arms<'a>(alloc: Global, rest: Rest<'a>, depth: u32) -> (List<BlockArm>, Rest<'a>)
     requires { depth ≤ 65 }
-    ensures no_longer { IfOk result (λ x. length x.1.now ≤ length marks.now) }
-    ensures reads { (d : ℕ) → d ≡ depth → (k : Items BlockArmTree → State)
-        → Gives result (bounded 64 (in_block_arms d [] k) (toks marks.now))
-        (λ x. bounded 64 (k (map block_arm_view x.0)) (toks x.1.now)) }
+    ensures no_longer { left result.1 ≤ left rest.entry }
+    ensures reads { (o : Bounded) (d : ℕ) → d ≡ depth → (k : Items BlockArmTree → State)
+        → Stands rest.entry (in_block_arms d [] k) o
+        → Stands result.1 (k (map block_arm_view result.0)) o }
 {
     let mut arms = List::new(alloc);
-    let Some((con, span, after)) = arm_sign(marks) else {
-        return Ok((arms, marks));
+    let Some((con, span, after)) = arm_sign(rest) else {
+        return (arms, rest);
     };
-    let (first, mut rest) = read_next_arm(alloc, con, span, after, depth)?;
-    arms.push(first)?;
+    let (first, after) = read_next_arm(alloc, con, span, after, depth);
+    let mut behind = pushed(&mut arms, first, after);
     'arms: loop {
-        let Some((con, span, after)) = arm_sign(rest) else {
-            return Ok((arms, rest));
+        let Some((con, span, after)) = arm_sign(behind) else {
+            return (arms, behind);
         };
-        let (arm, end) = read_next_arm(alloc, con, span, after, depth)?;
-        arms.push(arm)?;
-        rest = end;
+        let (arm, end) = read_next_arm(alloc, con, span, after, depth);
+        behind = pushed(&mut arms, arm, end);
     }
 }
 
@@ -259,32 +311,33 @@ fn read_next_arm<'a>(
     con_span: Span,
     marks: Marks<'a>,
     depth: u32,
-) -> Result<(BlockArm, Marks<'a>), Fault>
+) -> (BlockArm, Rest<'a>)
     requires { depth ≤ 65 }
-    ensures shorter { IfOk result (λ x. length x.1.now < length marks.now) }
-    ensures reads { (d : ℕ) → d ≡ depth → (k : BlockArmTree → State) (s : State) (ts : Items Tok)
-        → length ts ≡ suc (length marks.now)
-        → Moves d s ts (in_arm d (ident_tree con.now con_span) k) (toks marks.now)
-        → Gives result (bounded 64 s ts) (λ x. bounded 64 (k (block_arm_view x.0)) (toks x.1.now)) }
+    ensures no_longer { left result.1 ≤ length marks.now }
+    ensures reads { (o : Bounded) (d : ℕ) → d ≡ depth → (k : BlockArmTree → State)
+        → Enters d o (in_arm d (ident_tree con.now con_span) k) marks.now
+        → Stands result.1 (k (block_arm_view result.0)) o }
 {
     if depth > MAX_DEPTH {
-        return Err(Fault::TooDeep(marks.len() + 1));
+        let fault = Fault::TooDeep(marks.len() + 1);
+        return (no_arm(alloc), Rest::Failed(fault));
     }
-    let con = ident(alloc, con_span, con)?;
-    read_arm(alloc, con, marks, depth)
+    let con = ident(alloc, con_span, con);
+    let (con, rest) = made(con, no_name(alloc), Rest::Left(marks));
+    read_arm(alloc, con, rest, depth)
 }
 
 /// An arm, behind the constructor of its pattern.
 #[cycle(stmts)]
-fn read_arm(alloc: Global, con: Ident, marks: Marks, depth: u32) -> Result<(BlockArm, Marks), Fault>
+fn read_arm<'a>(alloc: Global, con: Ident, rest: Rest<'a>, depth: u32) -> (BlockArm, Rest<'a>)
     requires { depth ≤ 64 }
-    ensures shorter { IfOk result (λ x. length x.1.now < length marks.now) }
-    ensures reads { (d : ℕ) → d ≡ depth → (k : BlockArmTree → State)
-        → Gives result (bounded 64 (in_arm d (ident_view con) k) (toks marks.now))
-        (λ x. bounded 64 (k (block_arm_view x.0)) (toks x.1.now)) }
+    ensures no_longer { left result.1 ≤ left rest.entry }
+    ensures reads { (o : Bounded) (d : ℕ) → d ≡ depth → (k : BlockArmTree → State)
+        → Stands rest.entry (in_arm d (ident_view con) k) o
+        → Stands result.1 (k (block_arm_view result.0)) o }
 {
-    let (pattern, after) = read_variables(alloc, con, marks, depth)?;
-    let (_, after) = symbol(after, Symbol::Arrow, depth)?;
-    let (body, end) = read_block(alloc, after, depth)?;
-    Ok((stmt::arm(pattern, body), end))
+    let (pattern, after) = read_variables(alloc, con, rest, depth);
+    let (_, after) = symbol(after, Symbol::Arrow, depth);
+    let (body, end) = read_block(alloc, after, depth);
+    (stmt::arm(pattern, body), end)
 }

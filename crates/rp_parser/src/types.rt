@@ -1,20 +1,18 @@
 //! Types, parameters and replicated types.
 
-ghost use Rattle.std.specs.Prelude.{◌≡◌, ℕ, ◌<◌, ◌≤◌, [], ◌∷◌, IfOk, List as Items, length, map};
+ghost use Rattle.std.specs.Prelude.{◌≡◌, ℕ, ◌≤◌, [], ◌∷◌, IfOk, List as Items, map};
 ghost use Rattle.rp_span.specs.declared.Span.{Span as SpanValue};
-ghost use Rattle.rp_grammar.specs.Parts.{join as join_spans};
 ghost use Rattle.rp_grammar.specs.Trees.{TypeTree, ParamTree, CrdtTree, FieldTree};
 ghost use Rattle.rp_ast.specs.View.{type_view, param_view, crdt_view, field_view};
 ghost use Rattle.rp_tokens.specs.MachineStates.{State, want_type, want_crdt, more_fields};
 ghost use Rattle.rp_tokens.specs.MachineTypes.{want_entry, want_struct, want_param, want_params, want_param_list, want_element, want_field};
-ghost use Rattle.rp_tokens.specs.Machine.{bounded};
-ghost use Rattle.rp_parser.specs.means.Marks.{toks};
-ghost use Rattle.rp_parser.specs.means.Reading.{Gives};
+ghost use Rattle.rp_tokens.specs.Machine.{Bounded};
+ghost use Rattle.rp_parser.specs.means.Reading.{Stands, Within, left};
 ghost use Rattle.rp_parser.specs.means.Starts.{plain_form, container_form, map_form};
 
-use crate::fault::{Fault, lost};
-use crate::mark::Marks;
-use crate::next::{comma, join, name, optional, symbol};
+use crate::mark::Rest;
+use crate::next::join;
+use crate::rest::{comma, made, name, nowhere, optional, pushed, symbol};
 use crate::starts::{Container, CrdtStart, MapKind, PlainType, TypeStart, crdt_first, type_first};
 use rp_ast::build::{crdt, ty};
 use rp_ast::{CrdtNode, FieldNode, Param, TypeNode};
@@ -22,6 +20,16 @@ use rp_grammar::Symbol;
 use rp_span::Span;
 use rp_value::{List, Memory, copy_bytes};
 use std::alloc::Global;
+
+/// What stands in for a type behind a fault.
+fn no_type() -> TypeNode {
+    ty::bool_(nowhere())
+}
+
+/// What stands in for a replicated type behind a fault.
+fn no_crdt() -> CrdtNode {
+    crdt::counter(nowhere())
+}
 
 fn plain_type(alloc: Global, span: Span, plain: PlainType) -> Result<TypeNode, Memory>
     ensures { IfOk result (λ t. type_view t ≡ TypeTree.node span (plain_form plain.entry)) }
@@ -36,111 +44,106 @@ fn plain_type(alloc: Global, span: Span, plain: PlainType) -> Result<TypeNode, M
     })
 }
 
-pub(crate) fn read_type(alloc: Global, marks: Marks, depth: u32) -> Result<(TypeNode, Marks), Fault>
+#[cycle(types)]
+pub(crate) fn read_type<'a>(alloc: Global, rest: Rest<'a>, depth: u32) -> (TypeNode, Rest<'a>)
     requires { depth ≤ 65 }
-    ensures shallow { IfOk result (λ _. depth ≤ 64) }
-    ensures shorter { IfOk result (λ x. length x.1.now < length marks.now) }
-    ensures reads { (d : ℕ) → d ≡ depth → (k : TypeTree → State)
-        → Gives result (bounded 64 (want_type d k) (toks marks.now))
-        (λ x. bounded 64 (k (type_view x.0)) (toks x.1.now)) }
+    ensures within { Within depth result.1 }
+    ensures no_longer { left result.1 ≤ left rest.entry }
+    ensures reads { (o : Bounded) (d : ℕ) → d ≡ depth → (k : TypeTree → State)
+        → Stands rest.entry (want_type d k) o → Stands result.1 (k (type_view result.0)) o }
 {
-    let (start, start_span, rest) = type_first(marks, depth)?;
-    match start {
-        TypeStart::Plain(plain) => Ok((plain_type(alloc, start_span, plain)?, rest)),
-        TypeStart::Maybe => {
-            let (_, inside) = symbol(rest, Symbol::OpenBracket, depth)?;
-            let (element, after) = read_type(alloc, inside, depth + 1)?;
-            let (close, end) = match symbol(after, Symbol::CloseBracket, depth) {
-                Ok(read) => read,
-                Err(fault) => return Err(lost(element, fault)),
-            };
-            let span = join(start_span, close);
-            Ok((ty::maybe(alloc, span, element)?, end))
-        }
+    let Rest::Left(marks) = rest else {
+        return (no_type(), rest);
+    };
+    match type_first(marks, depth) {
+        Ok((start, span, after)) => match start {
+            TypeStart::Plain(plain) => {
+                let node = plain_type(alloc, span, plain);
+                made(node, no_type(), Rest::Left(after))
+            }
+            TypeStart::Maybe => {
+                let (element, span, end) = read_element(alloc, span, Rest::Left(after), depth);
+                let node = ty::maybe(alloc, span, element);
+                made(node, no_type(), end)
+            }
+        },
+        Err(fault) => (no_type(), Rest::Failed(fault)),
     }
 }
 
 /// An element type in brackets, behind a word; with the span from the word on.
-fn read_element(
+#[cycle(types)]
+fn read_element<'a>(
     alloc: Global,
     start: Span,
-    marks: Marks,
+    rest: Rest<'a>,
     depth: u32,
-) -> Result<(TypeNode, Span, Marks), Fault>
+) -> (TypeNode, Span, Rest<'a>)
     requires { depth ≤ 64 }
-    ensures shorter { IfOk result (λ x. length x.2.now < length marks.now) }
-    ensures reads { (d : ℕ) → d ≡ depth → (k : TypeTree → SpanValue → State)
-        → Gives result (bounded 64 (want_element d start k) (toks marks.now))
-        (λ x. bounded 64 (k (type_view x.0) x.1) (toks x.2.now)) }
+    ensures within { Within depth result.2 }
+    ensures no_longer { left result.2 ≤ left rest.entry }
+    ensures reads { (o : Bounded) (d : ℕ) → d ≡ depth → (k : TypeTree → SpanValue → State)
+        → Stands rest.entry (want_element d start k) o
+        → Stands result.2 (k (type_view result.0) result.1) o }
 {
-    let (_, inside) = symbol(marks, Symbol::OpenBracket, depth)?;
-    let (element, after) = read_type(alloc, inside, depth + 1)?;
-    let (close, end) = match symbol(after, Symbol::CloseBracket, depth) {
-        Ok(read) => read,
-        Err(fault) => return Err(lost(element, fault)),
-    };
-    Ok((element, join(start, close), end))
+    let (_, inside) = symbol(rest, Symbol::OpenBracket, depth);
+    let (element, after) = read_type(alloc, inside, depth + 1);
+    let (close, end) = symbol(after, Symbol::CloseBracket, depth);
+    (element, join(start, close), end)
 }
 
-pub(crate) fn read_param(alloc: Global, marks: Marks, depth: u32) -> Result<(Param, Marks), Fault>
+pub(crate) fn read_param<'a>(alloc: Global, rest: Rest<'a>, depth: u32) -> (Param, Rest<'a>)
     requires { depth ≤ 65 }
-    ensures shallow { IfOk result (λ _. depth ≤ 64) }
-    ensures shorter { IfOk result (λ x. length x.1.now < length marks.now) }
-    ensures reads { (d : ℕ) → d ≡ depth → (k : ParamTree → State)
-        → Gives result (bounded 64 (want_param d k) (toks marks.now))
-        (λ x. bounded 64 (k (param_view x.0)) (toks x.1.now)) }
+    ensures within { Within depth result.1 }
+    ensures no_longer { left result.1 ≤ left rest.entry }
+    ensures reads { (o : Bounded) (d : ℕ) → d ≡ depth → (k : ParamTree → State)
+        → Stands rest.entry (want_param d k) o → Stands result.1 (k (param_view result.0)) o }
 {
-    let (name, after) = name(alloc, marks, depth)?;
-    let (_, after) = symbol(after, Symbol::Colon, depth)?;
-    let (ty, rest) = read_type(alloc, after, depth)?;
-    Ok((Param { name, ty }, rest))
+    let (name, after) = name(alloc, rest, depth);
+    let (_, after) = symbol(after, Symbol::Colon, depth);
+    let (ty, end) = read_type(alloc, after, depth);
+    (Param { name, ty }, end)
 }
 
 /// Parameters with commas between them, one at least.
-pub(crate) fn read_params(
-    alloc: Global,
-    marks: Marks,
-    depth: u32,
-) -> Result<(List<Param>, Marks), Fault>
+pub(crate) fn read_params<'a>(alloc: Global, marks: Rest<'a>, depth: u32) -> (List<Param>, Rest<'a>)
     requires { depth ≤ 65 }
-    ensures shallow { IfOk result (λ _. depth ≤ 64) }
-    ensures shorter { IfOk result (λ x. length x.1.now < length marks.now) }
-    ensures reads { (d : ℕ) → d ≡ depth → (k : Items ParamTree → State)
-        → Gives result (bounded 64 (want_params d k) (toks marks.now))
-        (λ x. bounded 64 (k (map param_view x.0)) (toks x.1.now)) }
+    ensures within { Within depth result.1 }
+    ensures no_longer { left result.1 ≤ left marks.entry }
+    ensures reads { (o : Bounded) (d : ℕ) → d ≡ depth → (k : Items ParamTree → State)
+        → Stands marks.entry (want_params d k) o → Stands result.1 (k (map param_view result.0)) o }
 {
     let mut params = List::new(alloc);
-    let (first, mut rest) = read_param(alloc, marks, depth)?;
-    params.push(first)?;
-    loop {
+    let (first, after) = read_param(alloc, marks, depth);
+    let mut rest = pushed(&mut params, first, after);
+    'params: loop {
         let Some(after) = comma(rest, depth) else {
-            return Ok((params, rest));
+            return (params, rest);
         };
-        let (param, end) = read_param(alloc, after, depth)?;
-        params.push(param)?;
-        rest = end;
+        let (param, end) = read_param(alloc, Rest::Left(after), depth);
+        rest = pushed(&mut params, param, end);
     }
 }
 
 /// The parameters of a query or a procedure, in parentheses.
-pub(crate) fn read_param_list(
+pub(crate) fn read_param_list<'a>(
     alloc: Global,
-    marks: Marks,
+    rest: Rest<'a>,
     depth: u32,
-) -> Result<(List<Param>, Marks), Fault>
+) -> (List<Param>, Rest<'a>)
     requires { depth ≤ 64 }
-    ensures shorter { IfOk result (λ x. length x.1.now < length marks.now) }
-    ensures reads { (d : ℕ) → d ≡ depth → (k : Items ParamTree → State)
-        → Gives result (bounded 64 (want_param_list d k) (toks marks.now))
-        (λ x. bounded 64 (k (map param_view x.0)) (toks x.1.now)) }
+    ensures within { Within depth result.1 }
+    ensures no_longer { left result.1 ≤ left rest.entry }
+    ensures reads { (o : Bounded) (d : ℕ) → d ≡ depth → (k : Items ParamTree → State)
+        → Stands rest.entry (want_param_list d k) o → Stands result.1 (k (map param_view result.0)) o }
 {
-    let (_, inside) = symbol(marks, Symbol::OpenParen, depth)?;
+    let (_, inside) = symbol(rest, Symbol::OpenParen, depth);
     if let Some((_, end)) = optional(inside, Symbol::CloseParen, depth) {
-        return Ok((List::new(alloc), end));
+        return (List::new(alloc), Rest::Left(end));
     }
-    let (params, after) = read_params(alloc, inside, depth + 1)?;
-    let (_, end) = symbol(after, Symbol::CloseParen, depth)?;
-    Ok((params, end))
+    let (params, after) = read_params(alloc, inside, depth + 1);
+    let (_, end) = symbol(after, Symbol::CloseParen, depth);
+    (params, end)
 }
 
 fn container(span: Span, kind: Container, element: TypeNode) -> CrdtNode
@@ -171,114 +174,103 @@ fn map_type(
 }
 
 #[cycle(crdts)]
-pub(crate) fn read_crdt(alloc: Global, marks: Marks, depth: u32) -> Result<(CrdtNode, Marks), Fault>
+pub(crate) fn read_crdt<'a>(alloc: Global, rest: Rest<'a>, depth: u32) -> (CrdtNode, Rest<'a>)
     requires { depth ≤ 65 }
-    ensures shallow { IfOk result (λ _. depth ≤ 64) }
-    ensures shorter { IfOk result (λ x. length x.1.now < length marks.now) }
-    ensures reads { (d : ℕ) → d ≡ depth → (k : CrdtTree → State)
-        → Gives result (bounded 64 (want_crdt d k) (toks marks.now))
-        (λ x. bounded 64 (k (crdt_view x.0)) (toks x.1.now)) }
+    ensures within { Within depth result.1 }
+    ensures no_longer { left result.1 ≤ left rest.entry }
+    ensures reads { (o : Bounded) (d : ℕ) → d ≡ depth → (k : CrdtTree → State)
+        → Stands rest.entry (want_crdt d k) o → Stands result.1 (k (crdt_view result.0)) o }
 {
-    let (start, start_span, rest) = crdt_first(marks, depth)?;
-    match start {
-        CrdtStart::Counter => Ok((crdt::counter(start_span), rest)),
-        CrdtStart::Container(kind) => {
-            let (element, span, end) = read_element(alloc, start_span, rest, depth)?;
-            Ok((container(span, kind, element), end))
-        }
-        CrdtStart::Map(kind) => read_map(alloc, kind, start_span, rest, depth),
-        CrdtStart::Struct => read_struct(alloc, start_span, rest, depth),
+    let Rest::Left(marks) = rest else {
+        return (no_crdt(), rest);
+    };
+    match crdt_first(marks, depth) {
+        Ok((start, span, after)) => match start {
+            CrdtStart::Counter => (crdt::counter(span), Rest::Left(after)),
+            CrdtStart::Container(kind) => {
+                let (element, span, end) = read_element(alloc, span, Rest::Left(after), depth);
+                (container(span, kind, element), end)
+            }
+            CrdtStart::Map(kind) => read_map(alloc, kind, span, Rest::Left(after), depth),
+            CrdtStart::Struct => read_struct(alloc, span, Rest::Left(after), depth),
+        },
+        Err(fault) => (no_crdt(), Rest::Failed(fault)),
     }
 }
 
 /// A map in brackets, behind its word.
 #[cycle(crdts)]
-fn read_map(
+fn read_map<'a>(
     alloc: Global,
     kind: MapKind,
     start: Span,
-    marks: Marks,
+    rest: Rest<'a>,
     depth: u32,
-) -> Result<(CrdtNode, Marks), Fault>
+) -> (CrdtNode, Rest<'a>)
     requires { depth ≤ 64 }
-    ensures shorter { IfOk result (λ x. length x.1.now < length marks.now) }
-    ensures reads { (d : ℕ) → d ≡ depth → (k : CrdtTree → State)
-        → Gives result (bounded 64 (want_entry d start
-        (λ t v e. k (CrdtTree.node e (map_form kind t v)))) (toks marks.now))
-        (λ x. bounded 64 (k (crdt_view x.0)) (toks x.1.now)) }
+    ensures within { Within depth result.1 }
+    ensures no_longer { left result.1 ≤ left rest.entry }
+    ensures reads { (o : Bounded) (d : ℕ) → d ≡ depth → (k : CrdtTree → State)
+        → Stands rest.entry (want_entry d start (λ t v e. k (CrdtTree.node e (map_form kind t v)))) o
+        → Stands result.1 (k (crdt_view result.0)) o }
 {
-    let (_, inside) = symbol(marks, Symbol::OpenBracket, depth)?;
-    let (key, after) = read_type(alloc, inside, depth + 1)?;
-    let (_, after) = match symbol(after, Symbol::Comma, depth + 1) {
-        Ok(read) => read,
-        Err(fault) => return Err(lost(key, fault)),
-    };
-    let (value, after) = match read_crdt(alloc, after, depth + 1) {
-        Ok(read) => read,
-        Err(fault) => return Err(lost(key, fault)),
-    };
-    let (close, end) = match symbol(after, Symbol::CloseBracket, depth) {
-        Ok(read) => read,
-        Err(fault) => return Err(lost(key, lost(value, fault))),
-    };
+    let (_, inside) = symbol(rest, Symbol::OpenBracket, depth);
+    let (key, after) = read_type(alloc, inside, depth + 1);
+    let (_, behind) = symbol(after, Symbol::Comma, depth + 1);
+    let (value, behind) = read_crdt(alloc, behind, depth + 1);
+    let (close, end) = symbol(behind, Symbol::CloseBracket, depth);
     let span = join(start, close);
-    Ok((map_type(alloc, span, kind, key, value)?, end))
+    let node = map_type(alloc, span, kind, key, value);
+    made(node, no_crdt(), end)
 }
 
 /// Named parts and the closing brace, behind the opening one.
 #[cycle(crdts)]
-fn read_struct(
-    alloc: Global,
-    start: Span,
-    marks: Marks,
-    depth: u32,
-) -> Result<(CrdtNode, Marks), Fault>
+fn read_struct<'a>(alloc: Global, start: Span, rest: Rest<'a>, depth: u32) -> (CrdtNode, Rest<'a>)
     requires { depth ≤ 64 }
-    ensures shorter { IfOk result (λ x. length x.1.now < length marks.now) }
-    ensures reads { (d : ℕ) → d ≡ depth → (k : CrdtTree → State)
-        → Gives result (bounded 64 (want_struct d start k) (toks marks.now))
-        (λ x. bounded 64 (k (crdt_view x.0)) (toks x.1.now)) }
+    ensures within { Within depth result.1 }
+    ensures no_longer { left result.1 ≤ left rest.entry }
+    ensures reads { (o : Bounded) (d : ℕ) → d ≡ depth → (k : CrdtTree → State)
+        → Stands rest.entry (want_struct d start k) o → Stands result.1 (k (crdt_view result.0)) o }
 {
-    let (fields, after) = read_fields(alloc, marks, depth + 1)?;
-    let (close, end) = symbol(after, Symbol::CloseBrace, depth)?;
+    let (fields, after) = read_fields(alloc, rest, depth + 1);
+    let (close, end) = symbol(after, Symbol::CloseBrace, depth);
     let span = join(start, close);
-    Ok((crdt::struct_(span, fields), end))
+    (crdt::struct_(span, fields), end)
 }
 
 /// Named parts with commas between them, one at least.
 #[cycle(crdts)]
-fn read_fields(alloc: Global, marks: Marks, depth: u32) -> Result<(List<FieldNode>, Marks), Fault>
+fn read_fields<'a>(alloc: Global, marks: Rest<'a>, depth: u32) -> (List<FieldNode>, Rest<'a>)
     requires { depth ≤ 65 }
-    ensures shallow { IfOk result (λ _. depth ≤ 64) }
-    ensures shorter { IfOk result (λ x. length x.1.now < length marks.now) }
-    ensures reads { (d : ℕ) → d ≡ depth → (k : Items FieldTree → State)
-        → Gives result (bounded 64 (want_field d (λ f. more_fields d (f ∷ []) k)) (toks marks.now))
-        (λ x. bounded 64 (k (map field_view x.0)) (toks x.1.now)) }
+    ensures within { Within depth result.1 }
+    ensures no_longer { left result.1 ≤ left marks.entry }
+    ensures reads { (o : Bounded) (d : ℕ) → d ≡ depth → (k : Items FieldTree → State)
+        → Stands marks.entry (want_field d (λ f. more_fields d (f ∷ []) k)) o
+        → Stands result.1 (k (map field_view result.0)) o }
 {
     let mut fields = List::new(alloc);
-    let (first, mut rest) = read_field(alloc, marks, depth)?;
-    fields.push(first)?;
-    loop {
+    let (first, after) = read_field(alloc, marks, depth);
+    let mut rest = pushed(&mut fields, first, after);
+    'fields: loop {
         let Some(after) = comma(rest, depth) else {
-            return Ok((fields, rest));
+            return (fields, rest);
         };
-        let (field, end) = read_field(alloc, after, depth)?;
-        fields.push(field)?;
-        rest = end;
+        let (field, end) = read_field(alloc, Rest::Left(after), depth);
+        rest = pushed(&mut fields, field, end);
     }
 }
 
 #[cycle(crdts)]
-fn read_field(alloc: Global, marks: Marks, depth: u32) -> Result<(FieldNode, Marks), Fault>
+fn read_field<'a>(alloc: Global, rest: Rest<'a>, depth: u32) -> (FieldNode, Rest<'a>)
     requires { depth ≤ 65 }
-    ensures shallow { IfOk result (λ _. depth ≤ 64) }
-    ensures shorter { IfOk result (λ x. length x.1.now < length marks.now) }
-    ensures reads { (d : ℕ) → d ≡ depth → (k : FieldTree → State)
-        → Gives result (bounded 64 (want_field d k) (toks marks.now))
-        (λ x. bounded 64 (k (field_view x.0)) (toks x.1.now)) }
+    ensures within { Within depth result.1 }
+    ensures no_longer { left result.1 ≤ left rest.entry }
+    ensures reads { (o : Bounded) (d : ℕ) → d ≡ depth → (k : FieldTree → State)
+        → Stands rest.entry (want_field d k) o → Stands result.1 (k (field_view result.0)) o }
 {
-    let (name, after) = name(alloc, marks, depth)?;
-    let (_, after) = symbol(after, Symbol::Colon, depth)?;
-    let (part, rest) = read_crdt(alloc, after, depth)?;
-    Ok((crdt::field(name, part), rest))
+    let (name, after) = name(alloc, rest, depth);
+    let (_, after) = symbol(after, Symbol::Colon, depth);
+    let (part, end) = read_crdt(alloc, after, depth);
+    (crdt::field(name, part), end)
 }

@@ -1,18 +1,18 @@
-use Rattle.std.proofs.Common.{◌≡◌, ℕ, ◌<◌, ◌≤◌, List, length, map}
+use Rattle.std.proofs.Common.{◌≡◌, ℕ, ◌≤◌, List, map}
 use Rattle.rp_grammar.specs.Trees.{ParamTree}
 use Rattle.rp_ast.specs.View.{param_view}
 use Rattle.rp_tokens.specs.MachineStates.{State, more_params}
 use Rattle.rp_tokens.specs.MachineTypes.{want_params}
-use Rattle.rp_tokens.specs.Machine.{bounded}
-use Rattle.rp_parser.specs.means.Marks.{toks}
+use Rattle.rp_tokens.specs.Machine.{Bounded}
+use Rattle.rp_parser.specs.means.Reading.{Stands, Within, left}
 use Rattle.rp_parser.proofs.types.read_params.Given as goal
 
-abbrev pub invariant-loop-after : goal.invariant-loop-after
-invariant-loop-after l = record {
-  shallow : l.depth ≤ 64;
-  shorter : length l.rest < length l.fn.marks;
-  reads : (d : ℕ) → d ≡ l.depth → (k : List ParamTree → State) → bounded 64 (want_params d k) (toks l.fn.marks) ≡ bounded 64 (more_params d (map param_view l.params) k) (toks l.rest);
+abbrev pub invariant-params : goal.invariant-params
+invariant-params l = record {
+  within : Within l.depth l.rest;
+  no_longer : left l.rest ≤ left l.fn.marks;
+  reads : (o : Bounded) (d : ℕ) → d ≡ l.depth → (k : List ParamTree → State) → Stands l.fn.marks (want_params d k) o → Stands l.rest (more_params d (map param_view l.params) k) o;
 }
 
-abbrev pub decreases-loop-after : goal.decreases-loop-after
-decreases-loop-after l = length l.rest
+abbrev pub decreases-params : goal.decreases-params
+decreases-params l = left l.rest
