@@ -1,7 +1,7 @@
 -- Names that are found by their places.
-use Rattle.std.proofs.Common.{◌≡◌, ℕ, ◌+◌, ◌<◌, Bool, true, false, nat_eq, List, [], ◌∷◌, ◌++◌, length, map, Option, Some, None, refl, sym, ap, ◌∙◌, arith, eq-eqb, true≢false}
+use Rattle.std.proofs.Common.{◌≡◌, ℕ, ◌+◌, ◌<◌, Bool, true, false, nat_eq, List, [], ◌∷◌, ◌++◌, length, map, Option, Some, None, refl, sym, ap, ap₂, ◌∙◌, arith, eq-eqb, true≢false}
 use Rattle.std.specs.Prelude.{if◌then◌else◌}
-use Rattle.std.specs.Option.{is_some, option_and_then, unwrap_or}
+use Rattle.std.specs.Option.{is_some, option_and_then, option_map, unwrap_or}
 use Rattle.std.specs.Map.{update}
 use Rattle.std.proofs.lemmas.Bool.Decides.{nat_tests}
 use Rattle.std.proofs.lemmas.Cmp.{nat_list_eq_equiv}
@@ -9,8 +9,7 @@ use Rattle.std.specs.List.{slice_get}
 use Rattle.std.proofs.lemmas.List.{length-append}
 use Rattle.std.proofs.lemmas.Slice.Eq.{bytes_eq-Decides}
 use Rattle.type_rules.specs.Names.{Name, same_name}
-use Rattle.type_rules.specs.Accesses.{Var, find_var}
-use Rattle.type_tables.specs.Tables.{Table, has_number, place_from, with_first, without}
+use Rattle.type_tables.specs.Tables.{Entries, IsIndexOf, Table, has_number, number_in, place_from, with_first, without}
 
 pub same : (x y : Name) → same_name x y ≡ true → x ≡ y
 same x y h = (bytes_eq-Decides x y).0 h
@@ -36,7 +35,7 @@ is_some_if : {X : Type 0} (p : Bool) (x : X) (o : Option X) → is_some (if p th
 is_some_if true x o = refl
 is_some_if false x o = refl
 
-first_at : (t : Table) (y : Name) (n : ℕ) (x : Name)
+pub first_at : (t : Table) (y : Name) (n : ℕ) (x : Name)
     → with_first t y n x ≡ (if is_some (t y) then t x else (if same_name y x then Some n else t x))
 first_at t y n x = by (is_some (t y))
   where
@@ -46,7 +45,7 @@ first_at t y n x = by (is_some (t y))
     by false = refl
 
 -- the first of its name keeps its place
-pub place_push : (k : ℕ) (names : List Name) (y x : Name)
+place_push : (k : ℕ) (names : List Name) (y x : Name)
     → place_from k (names ++ y ∷ []) x ≡ with_first (place_from k names) y (k + length names) x
 place_push k [] y x = ap (λ n. if same_name y x then Some n else None) (omega arith)
 place_push k (w ∷ names) y x =
@@ -73,24 +72,39 @@ joined : {X : Type 0} (before : List X) (x : X) (behind : List X) → (before ++
 joined [] x behind = refl
 joined (y ∷ before) x behind = ap (λ l. y ∷ l) (joined before x behind)
 
-abbrev names_of : List Var → List Name
-names_of vs = map (λ v. v.name) vs
-
-pub find_at : (before vs : List Var) (x : Name)
-    → option_and_then (slice_get (before ++ vs)) (place_from (length before) (names_of vs) x) ≡ find_var vs x
-find_at before [] x = refl
-find_at before (v ∷ vs) x = by (same_name v.name x) (find_at (before ++ v ∷ []) vs x)
+-- what is seen at the place of a name is the first that has it
+seen_from : {X Y : Type 0} (text : X → Name) (view : X → Y) (first : List Y → Name → Option Y)
+    → ((x : Name) → first [] x ≡ None)
+    → ((v : X) (ys : List Y) (x : Name) → first (view v ∷ ys) x ≡ (if same_name (text v) x then Some (view v) else first ys x))
+    → (before vs : List X) (x : Name)
+    → option_map view (option_and_then (slice_get (before ++ vs)) (place_from (length before) (map text vs) x))
+    ≡ first (map view vs) x
+seen_from text view first none next before [] x = sym (none x)
+seen_from text view first none next before (v ∷ vs) x =
+    by (same_name (text v) x) (seen_from text view first none next (before ++ v ∷ []) vs x) ∙ sym (next v (map view vs) x)
   where
     by : (b : Bool)
-        → option_and_then (slice_get ((before ++ v ∷ []) ++ vs)) (place_from (length (before ++ v ∷ [])) (names_of vs) x)
-        ≡ find_var vs x
-        → option_and_then (slice_get (before ++ v ∷ vs)) (if b then Some (length before) else place_from (length before + 1) (names_of vs) x)
-        ≡ (if b then Some v else find_var vs x)
-    by true later = seam before v vs
+        → option_map view
+        (option_and_then (slice_get ((before ++ v ∷ []) ++ vs)) (place_from (length (before ++ v ∷ [])) (map text vs) x))
+        ≡ first (map view vs) x
+        → option_map view
+        (option_and_then (slice_get (before ++ v ∷ vs))
+        (if b then Some (length before) else place_from (length before + 1) (map text vs) x))
+        ≡ (if b then Some (view v) else first (map view vs) x)
+    by true later = ap (option_map view) (seam before v vs)
     by false later =
-        ap (λ l. option_and_then (slice_get l) (place_from (length before + 1) (names_of vs) x)) (sym (joined before v vs))
-        ∙ ap (λ k. option_and_then (slice_get ((before ++ v ∷ []) ++ vs)) (place_from k (names_of vs) x)) (sym (length-append before (v ∷ [])))
+        ap (λ l. option_map view (option_and_then (slice_get l) (place_from (length before + 1) (map text vs) x)))
+        (sym (joined before v vs))
+        ∙ ap (λ k. option_map view (option_and_then (slice_get ((before ++ v ∷ []) ++ vs)) (place_from k (map text vs) x)))
+        (sym (length-append before (v ∷ [])))
         ∙ later
+
+pub first_seen : {X Y : Type 0} (text : X → Name) (view : X → Y) (first : List Y → Name → Option Y)
+    → ((x : Name) → first [] x ≡ None)
+    → ((v : X) (ys : List Y) (x : Name) → first (view v ∷ ys) x ≡ (if same_name (text v) x then Some (view v) else first ys x))
+    → (vs : List X) (x : Name)
+    → option_map view (option_and_then (slice_get vs) (place_from 0 (map text vs) x)) ≡ first (map view vs) x
+first_seen text view first none next vs x = seen_from text view first none next [] vs x
 
 -- a place stands before the end
 pub place_below : (k : ℕ) (names : List Name) (x : Name) (p : ℕ) → place_from k names x ≡ Some p → p < k + length names
@@ -135,7 +149,7 @@ undone t y n below x = by (t y) refl
         far
         ∙ first_at t y n x ∙ ap (λ o. if is_some o then t x else (if same_name y x then Some n else t x)) e
 
-pub place_pop : (names : List Name) (y : Name) (s : Table) → ((x : Name) → s x ≡ place_from 0 (names ++ y ∷ []) x)
+place_pop : (names : List Name) (y : Name) (s : Table) → ((x : Name) → s x ≡ place_from 0 (names ++ y ∷ []) x)
     → (x : Name) → without s y (length names) x ≡ place_from 0 names x
 place_pop names y s h x =
     let t : Table = with_first (place_from 0 names) y (length names) in
@@ -145,3 +159,17 @@ place_pop names y s h x =
   where
     alike : (s t : Table) → ((z : Name) → s z ≡ t z) → without s y (length names) x ≡ without t y (length names) x
     alike s t all = ap (λ f. without f y (length names) x) (λ i z. all z i)
+
+-- # Tables of names
+
+pub indexed_push : (names : List Name) (y : Name) (es after : Entries) (n : ℕ) → IsIndexOf es names → n ≡ length names
+    → number_in after ≡ with_first (number_in es) y n → IsIndexOf after (names ++ y ∷ [])
+indexed_push names y es after n found e given x =
+    ap (λ (t : Table). t x) given
+    ∙ ap₂ (λ (t : Table) n. with_first t y n x) (λ i z. found z i) (e ∙ omega arith)
+    ∙ sym (place_push 0 names y x)
+
+pub indexed_pop : (names : List Name) (y : Name) (es after : Entries) (n : ℕ) → IsIndexOf es (names ++ y ∷ []) → n ≡ length names
+    → number_in after ≡ without (number_in es) y n → IsIndexOf after names
+indexed_pop names y es after n found e taken x =
+    ap (λ (t : Table). t x) taken ∙ ap (λ n. without (number_in es) y n x) e ∙ place_pop names y (number_in es) found x

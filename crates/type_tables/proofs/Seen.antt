@@ -1,18 +1,18 @@
 -- Variables beside whether they have values.
-use Rattle.std.proofs.Common.{◌≡◌, ℕ, zero, suc, ◌+◌, ◌-◌, ◌<◌, ◌≤◌, leb, Bool, true, false, List, [], ◌∷◌, ◌++◌, length, map, take, set, Option, Some, None, Result, Ok, Err, ◌⊎◌, inl, inr, refl, sym, ap, ap₂, ◌∙◌, arith, true≢false}
+use Rattle.std.proofs.Common.{◌≡◌, ℕ, zero, suc, ◌+◌, ◌-◌, ◌<◌, ◌≤◌, leb, Bool, true, false, List, [], ◌∷◌, ◌++◌, length, map, take, set, Option, Some, None, Result, Ok, Err, ◌⊎◌, inl, inr, refl, sym, ap, ap₂, ◌∙◌, subst, arith, true≢false}
 use Rattle.std.specs.Prelude.{if◌then◌else◌, is_err, OnOk}
 use Rattle.std.proofs.lemmas.Bool.Decides.{leb_tells}
-use Rattle.std.proofs.lemmas.List.{length-append, length-map, length-take-le, map-append, take_all}
+use Rattle.std.proofs.lemmas.List.{length-append, length-map, length-take-le, map-append, map-id, take_all}
 use Rattle.std.specs.List.{slice_get}
 use Rattle.std.specs.Option.{is_some, option_and_then, option_map, unwrap_or}
 use Rattle.type_rules.specs.Names.{Name, same_name}
 use Rattle.type_rules.specs.Accesses.{Var, find_var}
 use Rattle.type_rules.specs.Flow.{give, with_value}
 use Rattle.type_tables.specs.Flags.{flag_at, merged}
-use Rattle.type_tables.specs.Tables.{Entries, Table, number_in, place_from, with_first, without}
+use Rattle.type_tables.specs.Tables.{Entries, IsIndexOf, number_in, place_from, with_first, without}
 use Rattle.type_tables.specs.Variables.{ArePlaces, vars_seen, known_names, known_view, set_flags, with_flags, and_flags, give_last}
 use Rattle.type_tables.specs.declared.vars.Known.{Known}
-use Rattle.type_tables.proofs.Places.{find_at, place_pop, place_push}
+use Rattle.type_tables.proofs.Places.{first_seen, indexed_pop, indexed_push}
 
 pub length_seen : (ks : List Known) (bs : List Bool) → length bs ≡ length ks → length (vars_seen ks bs) ≡ length ks
 length_seen [] bs h = refl
@@ -45,13 +45,19 @@ get_seen (k ∷ ks) [] p h = absurd (omega arith)
 get_seen (k ∷ ks) (b ∷ bs) zero h = refl
 get_seen (k ∷ ks) (b ∷ bs) (suc p) h = get_seen ks bs p (omega arith)
 
+itself : (o : Option Var) → option_map (λ v. v) o ≡ o
+itself None = refl
+itself (Some v) = refl
+
 find_seen : (ks : List Known) (bs : List Bool) (x : Name) → length bs ≡ length ks
     → option_and_then (λ p. option_map (λ k. known_view k (flag_at bs p)) (slice_get ks p)) (place_from 0 (known_names ks) x)
     ≡ find_var (vars_seen ks bs) x
 find_seen ks bs x h =
     ap (λ (f : ℕ → Option Var). option_and_then f (place_from 0 (known_names ks) x)) (λ i p. get_seen ks bs p h i)
     ∙ ap (λ names. option_and_then (slice_get (vars_seen ks bs)) (place_from 0 names x)) (sym (names_seen ks bs h))
-    ∙ find_at [] (vars_seen ks bs) x
+    ∙ sym (itself (option_and_then (slice_get (vars_seen ks bs)) (place_from 0 (map (λ v. v.name) (vars_seen ks bs)) x)))
+    ∙ first_seen (λ v. v.name) (λ v. v) find_var (λ x. refl) (λ v vs x. refl) (vars_seen ks bs) x
+    ∙ ap (λ vs. find_var vs x) (map-id (vars_seen ks bs))
 
 pub unplaced : (ks : List Known) (bs : List Bool) (x : Name) → length bs ≡ length ks
     → None ≡ place_from 0 (known_names ks) x → None ≡ find_var (vars_seen ks bs) x
@@ -183,12 +189,8 @@ pub pushed : (items : List Known) (k : Known) (bs : List Bool) (b : Bool) (place
     → ArePlaces items bs places → n ≡ length items → n < 4294967296
     → number_in after ≡ with_first (number_in places) k.name.now n → ArePlaces (items ++ k ∷ []) (bs ++ b ∷ []) after
 pushed items k bs b places after n are e few given = record {
-  found = λ x.
-      ap (λ (t : Table). t x) given
-      ∙ ap₂ (λ (t : Table) n. with_first t k.name.now n x) (λ i y. are.found y i) (e ∙ sym (length-map items (λ v. v.name.now)))
-      ∙ sym (place_push 0 (known_names items) k.name.now x
-      ∙ ap (λ n. with_first (place_from 0 (known_names items)) k.name.now n x) (omega arith))
-      ∙ ap (λ names. place_from 0 names x) (sym (map-append (λ (v : Known). v.name.now) items (k ∷ [])));
+  found = subst (IsIndexOf after) (sym (map-append (λ (v : Known). v.name.now) items (k ∷ [])))
+      (indexed_push (known_names items) k.name.now places after n are.found (e ∙ sym (length-map items (λ v. v.name.now))) given);
   long = length-append bs (b ∷ []) ∙ ap (λ n. n + 1) are.long ∙ sym (length-append items (k ∷ []));
   few = let more = length-append items (k ∷ []) in omega arith;
 }
@@ -199,13 +201,10 @@ pub popped : (items ks : List Known) (k : Known) (bs : List Bool) (places after 
 popped items ks k bs places after n are e m taken =
     let one_less : length items ≡ length ks + 1 = ap length e ∙ length-append ks (k ∷ []) in
     record {
-      found = λ x.
-          ap (λ (t : Table). t x) taken
-          ∙ ap (λ n. without (number_in places) k.name.now n x) (m ∙ sym (length-map ks (λ v. v.name.now)))
-          ∙ place_pop (known_names ks) k.name.now (number_in places)
-          (λ y. are.found y ∙ ap (λ (items : List Known). place_from 0 (known_names items) y) e
-          ∙ ap (λ names. place_from 0 names y) (map-append (λ (v : Known). v.name.now) ks (k ∷ [])))
-          x;
+      found =
+          indexed_pop (known_names ks) k.name.now places after n
+          (subst (IsIndexOf places) (ap known_names e ∙ map-append (λ (v : Known). v.name.now) ks (k ∷ [])) are.found)
+          (m ∙ sym (length-map ks (λ v. v.name.now))) taken;
       long = let long = are.long in length-take-le n bs (omega arith) ∙ m;
       few = let few = are.few in omega arith;
     }

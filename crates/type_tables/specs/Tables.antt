@@ -1,5 +1,5 @@
 -- Names with a number each, as a function.
-use Rattle.std.specs.Prelude.{ℕ, ◌+◌, Bool, false, nat_eq, List, [], ◌∷◌, map, Option, Some, None, is_some, if◌then◌else◌}
+use Rattle.std.specs.Prelude.{◌≡◌, ℕ, ◌+◌, Bool, false, nat_eq, List, [], ◌∷◌, map, Option, Some, None, is_some, if◌then◌else◌}
 use Rattle.std.specs.Borrow.{Bor}
 use Rattle.std.specs.HashMap.{HashMap}
 use Rattle.std.specs.Map.{lookup, update}
@@ -36,3 +36,7 @@ without t x k = if has_number (t x) k then update same_name t x None else t
 abbrev pub place_from : ℕ → List Name → Name → Option ℕ
 place_from k [] x = None
 place_from k (name ∷ names) x = if same_name name x then Some k else place_from (k + 1) names x
+
+-- each name is found as the first of the list that has it
+abbrev pub IsIndexOf : Entries → List Name → Type 0
+IsIndexOf es names = (x : Name) → number_in es x ≡ place_from 0 names x

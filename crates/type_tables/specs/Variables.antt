@@ -3,7 +3,7 @@ use Rattle.std.specs.Prelude.{◌≡◌, ◌<◌, Bool, ◌&&◌, List, [], ◌�
 use Rattle.type_rules.specs.Names.{Name}
 use Rattle.type_rules.specs.Accesses.{Var}
 use Rattle.type_rules.specs.Flow.{with_value}
-use Rattle.type_tables.specs.Tables.{Entries, number_in, place_from}
+use Rattle.type_tables.specs.Tables.{Entries, IsIndexOf}
 use Rattle.type_tables.specs.declared.vars.VarItem.{VarItem}
 use Rattle.type_tables.specs.declared.vars.Known.{Known}
 
@@ -24,7 +24,7 @@ known_names items = map (λ v. v.name.now) items
 
 -- each name is found as the first that has it
 pub record ArePlaces (items : List Known) (flags : List Bool) (places : Entries) : Type 0 where
-  pub found : (x : Name) → number_in places x ≡ place_from 0 (known_names items) x
+  pub found : IsIndexOf places (known_names items)
   pub long : length flags ≡ length items
   pub few : length items < 4294967297
 

@@ -8,7 +8,9 @@ loop-at-preserved c = λ j.
     mix_word c.args.both c.args.own.now c.args.other.now c.loop-at.own c.loop-at.at c.args.len c.mixed_word.result j (omega arith)
     c.loop-at.invariant
     (λ i h. c.mixed_word.ensures i h
-    ∙ ap (λ there. mixed c.args.both there (one_at (get_or c.loop-at.own c.loop-at.at 0) i) (one_at (get_or c.args.other.now c.loop-at.at 0) i)) (c.mask_of.ensures i h))
+    ∙ ap
+    (λ there. mixed c.args.both there (one_at (get_or c.loop-at.own c.loop-at.at 0) i) (one_at (get_or c.args.other.now c.loop-at.at 0) i))
+    (c.mask_of.ensures i h))
 
 pub returns-clause-each : goal.returns-clause-each
 returns-clause-each c = λ j h.

@@ -19,7 +19,8 @@ returns c =
           let less : count ≡ count_at table name - 1 =
           w.saturating_sub.ensures ∙ ap (λ o. unwrap_or o 0 - 1) (ap option_copied_mut (sym w.in-Some.is) ∙ told) in
           let updated =
-          held_updates name c.self.inside.counts (c.get_mut.follows.lender count) _ ((c.get_mut.follows.holds count).3 (search rules))
+          held_updates name c.self.inside.counts (c.get_mut.follows.lender count) _
+          ((c.get_mut.follows.holds count).3 (search rules))
           ∙ ap (λ es. update same_name (number_in es) name (Some count)) c.self.view_is in
           ap (λ (it : _). count_in (entries_of it.counts)) w.self-inside-is
           ∙ (λ i y. count_updated table _ name count updated (λ n. n - 1) less y i))

@@ -33,7 +33,8 @@ returns c =
     let place = c.in_ok-place.field-0 in
     let items = c.as_slice.result.now in
     let there = ap (λ items. slice_get items place) (sym c.as_slice.ensures.value)
-    ∙ slice_get_read items (length items) place _ refl (ltb-true _ _ (sym c.in_ok-known.ensures.lookup.0)) c.in_ok-known.ensures.lookup.1 in
+    ∙ slice_get_read items (length items) place _ refl (ltb-true _ _ (sym c.in_ok-known.ensures.lookup.0))
+    c.in_ok-known.ensures.lookup.1 in
     placed c.self.inside.items.items c.self.inside.set name place c.in_ok-known.known.now c.has.result c.self.invariant.long
     (sym c.in_ok-place.was ∙ c.number.ensures ∙ c.self.invariant.found name) there c.has.ensures
     ∙ ap (λ vs. find_var vs name) c.self.view_is
