@@ -1,0 +1,5 @@
+pub mod Bits
+pub mod Held
+pub mod Places
+pub mod Rows
+pub mod Seen

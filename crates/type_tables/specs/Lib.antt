@@ -1,0 +1,5 @@
+pub mod Tables
+pub mod Flags
+pub mod Variables
+pub mod Counts
+pub mod Marks
