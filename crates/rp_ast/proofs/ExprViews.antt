@@ -103,10 +103,4 @@ pub access_view-parts : (a : AccessNode) → access_view a ≡ AccessTree.path (
 access_view-parts a = fold_out-AccessNode StepTree ExprForm AccessTree ExprArmTree ExprTree step_step expr_form_step access_step expr_arm_step expr_step a
     ∙ seen_parts (out-AccessNode a).root (out-AccessNode a).steps (out-AccessNode a).args
 
--- # The equations, all and by the kind of node: a search takes the longer, the more it may use
-
-pub ruleset expr_node_views = (expr_view-parts, expr_arm_view-parts, access_view-parts)
-
-pub ruleset step_views = (step_view-Dot, step_view-Returned, step_view-Key)
-
 pub ruleset expr_views = (expr_view-parts, expr_arm_view-parts, access_view-parts, expr_form_view-Implies, expr_form_view-Or, expr_form_view-And, expr_form_view-Not, expr_form_view-Forall, expr_form_view-Exists, expr_form_view-Compare, expr_form_view-Plus, expr_form_view-Minus, expr_form_view-Int, expr_form_view-Str, expr_form_view-Truth, expr_form_view-NoneWord, expr_form_view-SomeOf, expr_form_view-Unreturned, expr_form_view-Tx, expr_form_view-Call, expr_form_view-Match, expr_form_view-Access, step_view-Dot, step_view-Returned, step_view-Key)

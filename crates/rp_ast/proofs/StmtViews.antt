@@ -59,10 +59,4 @@ else_view-Block b = ap else_view (sym (else_made.rolls-Block b)) ∙ fold-roll-E
 pub else_view-If : (x : StmtNode) → else_view (else_made.If x) ≡ ElseTree.else_if (stmt_view x)
 else_view-If x = ap else_view (sym (else_made.rolls-If x)) ∙ fold-roll-ElseNode ElseTree StmtForm BlockTree BlockArmTree StmtTree else_step stmt_form_step block_step block_arm_step stmt_step (layer.ElseNode::If x)
 
--- # The equations, all and by the kind of node: a search takes the longer, the more it may use
-
-pub ruleset stmt_node_views = (stmt_view-parts, block_view-parts, block_arm_view-parts)
-
-pub ruleset else_views = (else_view-Block, else_view-If)
-
 pub ruleset stmt_views = (stmt_view-parts, block_view-parts, block_arm_view-parts, stmt_form_view-If, stmt_form_view-Var, stmt_form_view-New, stmt_form_view-Assign, stmt_form_view-Access, stmt_form_view-Match, stmt_form_view-Atomic, stmt_form_view-Assert, stmt_form_view-Return, else_view-Block, else_view-If)

@@ -4,7 +4,7 @@ ghost use Rattle.std.specs.Prelude.{◌≡◌, ◌∷◌, [], ◌++◌, map, fal
 ghost use Rattle.rp_grammar.specs.Terminals as terminal;
 ghost use Rattle.rp_grammar.specs.declared.terminal.Symbol.TheVariants as symbol;
 ghost use Rattle.rp_print.specs.declared.Place.TheVariants as place;
-ghost use Rattle.rp_print.specs.Printed.{followed, separated, in_parens, in_braces, int_terminals, con_terminal, vars_terminals, pattern_terminals, param_terminals, compare_symbol, call_word, truth_word, name_terminal, is_composite as is_composite_form, is_negative as is_negative_form, needs_parens as needs_parens_at, expr_terminals, form_terminals, exprs_terminals, arm_terminals, arms_terminals, access_terminals, step_terminals, steps_terminals, args_terminals};
+ghost use Rattle.rp_print.specs.Printed.{followed, separated, in_parens, int_terminals, con_terminal, vars_terminals, pattern_terminals, param_terminals, compare_symbol, call_word, truth_word, name_terminal, is_composite as is_composite_form, is_negative as is_negative_form, needs_parens as needs_parens_at, expr_terminals, form_terminals, exprs_terminals, arm_terminals, arms_terminals, access_terminals, step_terminals, steps_terminals, args_terminals};
 ghost use Rattle.rp_ast.specs.View.{ident_view, idents_view, pattern_view, param_view, expr_view, expr_form_view, exprs_view, expr_arm_view, expr_arms_view, access_view, step_view, steps_view, args_view};
 
 use crate::Place;
@@ -157,7 +157,7 @@ pub fn put_pattern(out: &mut Vec<u8>, p: &PatternNode) -> Result<(), Memory>
 }
 
 #[cycle(put_exprs)]
-#[tactic(auto, using(rp_ast::proofs::ExprViews::expr_node_views, crate::proofs::Appends::appends))]
+#[tactic(auto, using(rp_ast::proofs::ExprViews::expr_views, crate::proofs::Appends::appends))]
 pub fn put_expr(out: &mut Vec<u8>, e: &ExprNode, place: Place) -> Result<(), Memory>
     ensures { OnOk result (out.new.items ≡ out.old.items
         ++ followed (expr_terminals place (expr_view e.now))) }
@@ -179,7 +179,8 @@ fn put_form(out: &mut Vec<u8>, what: &ExprForm) -> Result<(), Memory>
 {
     match what {
         ExprForm::Implies(a, b) => {
-            put_left(out, a, Symbol::Implies)?;
+            put_expr(out, a, Place::Operand)?;
+            put_symbol(out, Symbol::Implies)?;
             put_expr(out, b, Place::Operand)
         }
         ExprForm::Or(es) => put_members(out, es.as_slice(), Symbol::Or, Place::Operand),
@@ -191,15 +192,18 @@ fn put_form(out: &mut Vec<u8>, what: &ExprForm) -> Result<(), Memory>
         ExprForm::Forall(p, e) => put_quantified(out, Word::Forall, p, e),
         ExprForm::Exists(p, e) => put_quantified(out, Word::Exists, p, e),
         ExprForm::Compare(op, a, b) => {
-            put_left(out, a, compare_text(*op))?;
+            put_expr(out, a, Place::Operand)?;
+            put_symbol(out, compare_text(*op))?;
             put_expr(out, b, Place::Operand)
         }
         ExprForm::Plus(a, b) => {
-            put_left(out, a, Symbol::Plus)?;
+            put_expr(out, a, Place::Operand)?;
+            put_symbol(out, Symbol::Plus)?;
             put_expr(out, b, Place::Operand)
         }
         ExprForm::Minus(a, b) => {
-            put_left(out, a, Symbol::Minus)?;
+            put_expr(out, a, Place::Operand)?;
+            put_symbol(out, Symbol::Minus)?;
             put_expr(out, b, Place::Operand)
         }
         _ => put_primary(out, what),
@@ -229,22 +233,13 @@ fn put_primary(out: &mut Vec<u8>, what: &ExprForm) -> Result<(), Memory>
         }
         ExprForm::Match(e, arms) => {
             put_on(out, Word::Match, e, Place::Whole)?;
-            put_arms(out, arms.as_slice())
+            put_symbol(out, Symbol::OpenBrace)?;
+            put_arms(out, arms.as_slice())?;
+            put_symbol(out, Symbol::CloseBrace)
         }
         ExprForm::Access(a) => put_access(out, a),
         _ => unreachable!(),
     }
-}
-
-/// A left operand, and the operator behind it.
-#[cycle(put_exprs)]
-#[tactic(auto, using(crate::proofs::Appends::appends))]
-fn put_left(out: &mut Vec<u8>, e: &ExprNode, m: Symbol) -> Result<(), Memory>
-    ensures { OnOk result (out.new.items ≡ out.old.items
-        ++ followed (expr_terminals place.Operand (expr_view e.now) ++ terminal.symbol m ∷ [])) }
-{
-    put_expr(out, e, Place::Operand)?;
-    put_symbol(out, m)
 }
 
 /// A quantifier's word, its variable and its body.
@@ -300,7 +295,7 @@ fn put_members(out: &mut Vec<u8>, es: &[ExprNode], m: Symbol, place: Place) -> R
 }
 
 #[cycle(put_exprs)]
-#[tactic(auto, using(rp_ast::proofs::ExprViews::expr_node_views, crate::proofs::Appends::appends))]
+#[tactic(auto, using(rp_ast::proofs::ExprViews::expr_views, crate::proofs::Appends::appends))]
 fn put_arm(out: &mut Vec<u8>, a: &ExprArm) -> Result<(), Memory>
     ensures { OnOk result (out.new.items ≡ out.old.items
         ++ followed (arm_terminals (expr_arm_view a.now))) }
@@ -310,20 +305,8 @@ fn put_arm(out: &mut Vec<u8>, a: &ExprArm) -> Result<(), Memory>
     put_expr(out, &a.body, Place::Argument)
 }
 
-/// The arms in braces.
 #[cycle(put_exprs)]
-#[tactic(auto, using(crate::proofs::Appends::appends))]
 fn put_arms(out: &mut Vec<u8>, arms: &[ExprArm]) -> Result<(), Memory>
-    ensures { OnOk result (out.new.items ≡ out.old.items ++ followed (in_braces
-        (separated symbol.Comma (arms_terminals (expr_arms_view arms.now))))) }
-{
-    put_symbol(out, Symbol::OpenBrace)?;
-    put_each_arm(out, arms)?;
-    put_symbol(out, Symbol::CloseBrace)
-}
-
-#[cycle(put_exprs)]
-fn put_each_arm(out: &mut Vec<u8>, arms: &[ExprArm]) -> Result<(), Memory>
     ensures { OnOk result (out.new.items ≡ out.old.items
         ++ followed (separated symbol.Comma (arms_terminals (expr_arms_view arms.now)))) }
 {
@@ -335,7 +318,7 @@ fn put_each_arm(out: &mut Vec<u8>, arms: &[ExprArm]) -> Result<(), Memory>
 }
 
 #[cycle(put_exprs)]
-#[tactic(auto, using(rp_ast::proofs::ExprViews::expr_node_views, crate::proofs::Appends::appends))]
+#[tactic(auto, using(rp_ast::proofs::ExprViews::expr_views, crate::proofs::Appends::appends))]
 pub fn put_access(out: &mut Vec<u8>, a: &AccessNode) -> Result<(), Memory>
     ensures { OnOk result (out.new.items ≡ out.old.items
         ++ followed (access_terminals (access_view a.now))) }
@@ -360,7 +343,7 @@ fn put_steps(out: &mut Vec<u8>, steps: &[AccessStep]) -> Result<(), Memory>
 }
 
 #[cycle(put_exprs)]
-#[tactic(auto, using(rp_ast::proofs::ExprViews::step_views, crate::proofs::Appends::appends))]
+#[tactic(auto, using(rp_ast::proofs::ExprViews::expr_views, crate::proofs::Appends::appends))]
 fn put_step(out: &mut Vec<u8>, x: &AccessStep) -> Result<(), Memory>
     ensures { OnOk result (out.new.items ≡ out.old.items
         ++ followed (step_terminals (step_view x.now))) }

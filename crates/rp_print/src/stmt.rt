@@ -88,7 +88,7 @@ fn put_assign(out: &mut Vec<u8>, n: &Ident, e: &ExprNode) -> Result<(), Memory>
 }
 
 #[cycle(put_stmts)]
-#[tactic(auto, using(rp_ast::proofs::StmtViews::stmt_node_views, crate::proofs::Appends::appends))]
+#[tactic(auto, using(rp_ast::proofs::StmtViews::stmt_views, crate::proofs::Appends::appends))]
 pub fn put_block(out: &mut Vec<u8>, b: &Block) -> Result<(), Memory>
     ensures { OnOk result (out.new.items ≡ out.old.items
         ++ followed (block_terminals (block_view b.now))) }
@@ -152,7 +152,7 @@ fn put_stmt(out: &mut Vec<u8>, s: &StmtNode) -> Result<(), Memory>
 }
 
 #[cycle(put_stmts)]
-#[tactic(auto, using(rp_ast::proofs::StmtViews::else_views, crate::proofs::Appends::appends))]
+#[tactic(auto, using(rp_ast::proofs::StmtViews::stmt_views, crate::proofs::Appends::appends))]
 fn put_maybe_else(out: &mut Vec<u8>, otherwise: &Option<ElseNode>) -> Result<(), Memory>
     ensures { OnOk result (out.new.items ≡ out.old.items
         ++ followed (else_terminals (maybe_else_view otherwise.now))) }
@@ -171,7 +171,7 @@ fn put_maybe_else(out: &mut Vec<u8>, otherwise: &Option<ElseNode>) -> Result<(),
 }
 
 #[cycle(put_stmts)]
-#[tactic(auto, using(rp_ast::proofs::StmtViews::stmt_node_views, crate::proofs::Appends::appends))]
+#[tactic(auto, using(rp_ast::proofs::StmtViews::stmt_views, crate::proofs::Appends::appends))]
 fn put_block_arm(out: &mut Vec<u8>, a: &BlockArm) -> Result<(), Memory>
     ensures { OnOk result (out.new.items ≡ out.old.items
         ++ followed (block_arm_terminals (block_arm_view a.now))) }

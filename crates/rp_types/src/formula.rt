@@ -12,10 +12,10 @@ use rp_ast::{ExprForm, ExprNode};
 use rp_lang::Formula;
 use rp_value::{Boxed, List};
 
+#[tactic(auto, using(rp_ast::proofs::ExprViews::expr_views))]
 impl<'a> Scope<'a> {
     /// The formula of an expression.
     #[cycle(formulas)]
-    #[tactic(auto, using(rp_ast::proofs::ExprViews::expr_views))]
     pub(crate) fn formula(&self, e: &ExprNode) -> Result<Boxed<Formula>, Stop>
         ensures found { IfOk result
             (λ f. spec.formula_for (spec.scope_view self.now.params.now) (tree.expr_view e.now)

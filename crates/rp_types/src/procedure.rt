@@ -74,7 +74,7 @@ fn bools(alloc: Global, count: usize) -> Result<List<Ty>, Memory>
 }
 
 /// The closing brace.
-#[tactic(auto, using(rp_ast::proofs::StmtViews::stmt_node_views))]
+#[tactic(auto, using(rp_ast::proofs::StmtViews::stmt_views))]
 fn end_of(block: &Block) -> Span
     ensures { result ≡ block_end (tree.block_view block.now) }
 {

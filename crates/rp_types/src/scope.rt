@@ -32,7 +32,7 @@ impl<'a> Scope<'a> {
     }
 
     /// The variable that is accessed, with nothing behind its name.
-    #[tactic(auto, using(rp_ast::proofs::ExprViews::expr_node_views))]
+    #[tactic(auto, using(rp_ast::proofs::ExprViews::expr_views))]
     pub(crate) fn variable(&self, access: &AccessNode) -> Result<Boxed<Formula>, Stop>
         ensures found { IfOk result
             (λ f. spec.access_for (spec.scope_view self.now.params.now) (tree.access_view access.now)

@@ -12,9 +12,9 @@ use rp_ast::{Block, ElseNode, StmtForm, StmtNode};
 use rp_lang::Stmt;
 use rp_value::{Boxed, List};
 
+#[tactic(auto, using(rp_ast::proofs::StmtViews::stmt_views))]
 impl<'a> Scope<'a> {
     #[cycle(stmts)]
-    #[tactic(auto, using(rp_ast::proofs::StmtViews::stmt_views))]
     fn stmt(&self, stmt: &StmtNode) -> Result<Boxed<Stmt>, Stop>
         ensures found { IfOk result
             (λ st. spec.stmt_for (spec.scope_view self.now.params.now) (tree.stmt_view stmt.now)
@@ -45,7 +45,6 @@ impl<'a> Scope<'a> {
 
     /// The statements of a block.
     #[cycle(stmts)]
-    #[tactic(auto, using(rp_ast::proofs::StmtViews::stmt_node_views))]
     pub(crate) fn block(&self, block: &Block) -> Result<List<Stmt>, Stop>
         ensures found { IfOk result
             (λ sts. spec.block_for (spec.scope_view self.now.params.now) (tree.block_view block.now)
@@ -75,7 +74,6 @@ impl<'a> Scope<'a> {
 
     /// The statements behind a block.
     #[cycle(stmts)]
-    #[tactic(auto, using(rp_ast::proofs::StmtViews::else_views))]
     fn otherwise(&self, otherwise: &Option<ElseNode>) -> Result<List<Stmt>, Stop>
         ensures found { IfOk result
             (λ sts. spec.else_for (spec.scope_view self.now.params.now)

@@ -10,8 +10,8 @@ put_members-loop-i-preserved t c =
     joined_item (λ es. exprs_terminals c.args.place (exprs_view es)) c.args.m c.args.es.now c.loop-i.i c.index-es-i.result (expr_terminals c.args.place (expr_view c.index-es-i.result)) refl c.loop-i-test.true c.index-es-i.is
     c.loop-i.out.items c.put_separator.new.out.items c.put_expr.new.out.items _ c.loop-i.invariant c.in_ok-put_separator.ensures c.in_ok-put_expr.ensures
 
-pub put_each_arm-loop-i-preserved : goal.put_each_arm-loop-i-preserved
-put_each_arm-loop-i-preserved t c =
+pub put_arms-loop-i-preserved : goal.put_arms-loop-i-preserved
+put_arms-loop-i-preserved t c =
     joined_item (λ as_. arms_terminals (expr_arms_view as_)) symbol.Comma c.args.arms.now c.loop-i.i c.index-arms-i.result (arm_terminals (expr_arm_view c.index-arms-i.result)) refl c.loop-i-test.true c.index-arms-i.is
     c.loop-i.out.items c.put_separator.new.out.items c.put_arm.new.out.items _ c.loop-i.invariant c.in_ok-put_separator.ensures c.in_ok-put_arm.ensures
 

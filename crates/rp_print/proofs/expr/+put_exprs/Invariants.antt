@@ -10,8 +10,8 @@ use Rattle.rp_print.proofs.expr.+put_exprs.Given as goal
 abbrev pub invariant-put_members-loop-i : goal.invariant-put_members-loop-i
 invariant-put_members-loop-i l = l.out.items ++ followed (joined l.m l.i (exprs_terminals l.place (exprs_view (drop l.i l.es)))) ≡ l.initial.out.items ++ followed (separated l.m (exprs_terminals l.place (exprs_view l.es)))
 
-abbrev pub invariant-put_each_arm-loop-i : goal.invariant-put_each_arm-loop-i
-invariant-put_each_arm-loop-i l = l.out.items ++ followed (joined symbol.Comma l.i (arms_terminals (expr_arms_view (drop l.i l.arms)))) ≡ l.initial.out.items ++ followed (separated symbol.Comma (arms_terminals (expr_arms_view l.arms)))
+abbrev pub invariant-put_arms-loop-i : goal.invariant-put_arms-loop-i
+invariant-put_arms-loop-i l = l.out.items ++ followed (joined symbol.Comma l.i (arms_terminals (expr_arms_view (drop l.i l.arms)))) ≡ l.initial.out.items ++ followed (separated symbol.Comma (arms_terminals (expr_arms_view l.arms)))
 
 abbrev pub invariant-put_steps-loop-x : goal.invariant-put_steps-loop-x
 invariant-put_steps-loop-x l = l.out.items ++ followed (steps_terminals (steps_view (drop l.x-index l.steps))) ≡ l.initial.out.items ++ followed (steps_terminals (steps_view l.steps))
