@@ -1,5 +1,5 @@
 -- No expression of a lawful text has the type of a `none` of which no type is asked.
-use Rattle.std.proofs.Common.{◌≡◌, ◌+◌, ℕ, zero, suc, Bool, true, false, not, ◌&&◌, ◌||◌, ◌==◌, cond, List, [], ◌∷◌, ◌++◌, map, length, Option, Some, None, refl, ap, subst, sym, ◌∙◌}
+use Rattle.std.proofs.Common.{◌≡◌, ℕ, zero, suc, Bool, true, false, ◌&&◌, ◌==◌, cond, List, [], ◌∷◌, ◌++◌, map, Option, Some, None, refl}
 use Rattle.std.specs.Prelude.{find, nat_eq, slice_get}
 use Rattle.std.specs.List.{AllByRecursion}
 use Rattle.std.proofs.lemmas.Bool.{and_parts, not-false, not-true, or_parts}
@@ -11,16 +11,15 @@ use Rattle.type_rules.specs.declared.kind.Kind.{Kind}
 use Rattle.type_rules.specs.declared.kind.Base.{Base}
 use Rattle.type_rules.specs.declared.kind.Base.TheVariants as base
 use Rattle.type_rules.specs.Names.{Name, Names, Declared, Entry, TypeEntry, TypeSort, con_fields, entry_named, param_type, same_name, text_of, type_number}
-use Rattle.type_rules.specs.Kinds.{bool_kind, form_kind, is_open, kind_of, maybe_of, named_kind, param_kinds, unknown_kind}
-use Rattle.type_rules.specs.Accesses.{Access, Var, access_kind, access_of, alone, find_var, of_declared, of_entry, of_name, of_proc, of_way}
-use Rattle.type_rules.specs.Paths.{MapParts, Member, Way, at_field, form_of, map_parts, member_of, members_of, past_dot, past_key, step_from, stepped, to_member, walked}
+use Rattle.type_rules.specs.Kinds.{form_kind, is_open, kind_of, named_kind, param_kinds, unknown_kind}
+use Rattle.type_rules.specs.Accesses.{Access, Var, access_kind, alone, find_var, of_declared, of_entry, of_name, of_proc, of_way}
+use Rattle.type_rules.specs.Paths.{MapParts, Member, Way, at_field, form_of, map_parts, member_of, members_of, past_dot, past_key, stepped, to_member, walked}
 use Rattle.type_rules.specs.Typing.{called_kind, form_type, none_kind, type_of}
 use Rattle.type_rules.specs.Sites.{Scope, Want, Site}
 use Rattle.type_rules.specs.Matches.{Case, bound_sites, bound_var, case_fields, case_named, cases_of, con_case, declared_cases, find_case, first_kind, maybe_cases, other_kinds, pattern_kinds, pattern_name, pattern_vars, sort_cases, with_bound}
-use Rattle.type_rules.specs.ExprSites.{access_sites, arg_sites, arm_sites, expr_sites, form_sites, given_sites, held, key_sites, matched, operand_sites, pattern_sites, quantified_var, step_sites, with_pattern, with_var}
+use Rattle.type_rules.specs.ExprSites.{arg_sites, arm_sites, expr_sites, form_sites, given_sites, held, key_sites, matched, operand_sites, pattern_sites, quantified_var, step_sites, with_pattern, with_var}
 use Rattle.type_rules.specs.Rules.{is_maybe_asked, rule, rules, rule10}
 use Rattle.lawful.proofs.Basics.{when_not}
-use Rattle.lawful.proofs.Forms.{one}
 use Rattle.lawful.proofs.Places.{Lawfully, all_both, all_parts, is_one_of}
 
 abbrev pub IsClosed : Kind → Type 0

@@ -1,7 +1,6 @@
 -- Nor has one in a statement of a lawful text.
-use Rattle.std.proofs.Common.{◌≡◌, ℕ, zero, suc, Bool, true, false, cond, List, [], ◌∷◌, ◌++◌, map, length, take, Option, Some, None, refl}
+use Rattle.std.proofs.Common.{ℕ, zero, suc, Bool, true, false, cond, List, [], ◌∷◌, ◌++◌, map, length, take, Option, Some, None}
 use Rattle.std.specs.List.{AllByRecursion}
-use Rattle.rp_span.specs.declared.Span.{Span}
 use Rattle.rp_grammar.specs.Trees.{Ident, TypeTree, ParamTree, ExprTree, AccessTree, BlockTree, StmtTree, StmtForm, StmtTrees, ElseTree, BlockArmTree, BlockArmTrees, ProcTree, QueryTree}
 use Rattle.type_rules.specs.declared.kind.Kind.{Kind}
 use Rattle.type_rules.specs.declared.role.Role.{Role}
@@ -16,10 +15,10 @@ use Rattle.type_rules.specs.Matches.{pattern_kinds, pattern_name, pattern_vars}
 use Rattle.type_rules.specs.ExprSites.{asks, bool_whole, expr_sites, matched, pattern_sites}
 use Rattle.type_rules.specs.Flow as flow
 use Rattle.type_rules.specs.Flow.{Sight, after, after_arms, after_block, after_else, after_stmts, both, declared_var, give, with_declared, with_value}
-use Rattle.type_rules.specs.StmtSites.{Frame, arm_sites, before_stmts, block_sites, else_sites, is_last, is_there, scope_in, stmt_form_sites, stmt_sites, stmts_sites}
+use Rattle.type_rules.specs.StmtSites.{Frame, arm_sites, before_stmts, block_sites, else_sites, is_last, is_there, scope_in, stmt_sites, stmts_sites}
 use Rattle.type_rules.specs.DeclSites.{declares_all, frame_for, invariant_sites, named_all, param_sites, proc_sites, query_sites, result_sites, scope_for, sight_for, written_all}
 use Rattle.type_rules.specs.Starts.{brace_of}
-use Rattle.lawful.proofs.Closed.{AllTypes, IsClosed, TypeClosed, VarClosed, VarsClosed, bound_closed, given_types, join_types, pattern_closed, pattern_types, step_types, type_closed, types_closed, written_closed}
+use Rattle.lawful.proofs.Closed.{AllTypes, IsClosed, VarClosed, VarsClosed, bound_closed, given_types, join_types, pattern_closed, pattern_types, step_types, type_closed, types_closed, written_closed}
 use Rattle.lawful.proofs.Places.{Lawfully, all_both, all_parts}
 
 abbrev Laws : Names → List Site → Type 0

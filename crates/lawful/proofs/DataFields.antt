@@ -1,56 +1,32 @@
 -- Fields of constructors, slots and results of a lawful text's program are of types of data.
-use Rattle.std.proofs.Common.{◌≡◌, ◌+◌, ℕ, zero, suc, Bool, true, false, not, ◌&&◌, ◌==◌, cond, List, [], ◌∷◌, ◌++◌, map, length, Option, Some, None, refl, ap, subst, sym, ◌∙◌, arith}
-use Rattle.std.specs.Prelude.{flat_map, option_map, slice_get, unwrap_or}
-use Rattle.std.specs.List.{AllByRecursion, list_all}
-use Rattle.std.proofs.lemmas.Bool.{and_from, eqb-true, not-false}
-use Rattle.rp_span.specs.declared.Span.{Span}
+use Rattle.std.proofs.Common.{◌≡◌, ℕ, zero, suc, Bool, true, false, ◌&&◌, ◌==◌, cond, List, [], ◌∷◌, map, Option, Some, None, refl, subst}
+use Rattle.std.specs.Prelude.{flat_map, slice_get, unwrap_or}
+use Rattle.std.specs.List.{AllByRecursion}
+use Rattle.std.proofs.lemmas.Bool.{and_from}
 use Rattle.rp_value.specs.declared.tables.Ty.{Ty}
 use Rattle.rp_value.specs.declared.tables.ConDecl.{ConDecl}
-use Rattle.rp_grammar.specs.Trees.{Ident, TypeTree, ParamTree, ConTree, ProcTree, BlockTree, StmtTree, StmtForm, StmtTrees, ElseTree, BlockArmTree, BlockArmTrees, DeclTree}
-use Rattle.rp_grammar.specs.Texts.{IsText}
-use Rattle.rp_grammar.proofs.Formed.{FormedProc, FormedStmt, FormedBlock, FormedStmts, FormedElse, FormedBlockArms}
-use Rattle.rp_grammar.proofs.FormedTexts.{Lexable, text_formed}
-use Rattle.rp_lang.specs.Stmts.{Sts, StArms}
-use Rattle.rp_lang.specs.Programs.{Proc, Prog}
-use Rattle.rp_lang.specs.Types.{are_ordinary, are_ordinary_fields, fields_of, is_ordinary}
-use Rattle.rp_lang.specs.WellFormed.{at_start, is_result}
+use Rattle.rp_grammar.specs.Trees.{ConTree, DeclTree}
+use Rattle.rp_lang.specs.Programs.{Prog}
+use Rattle.rp_lang.specs.Types.{are_ordinary, are_ordinary_fields}
 use Rattle.type_rules.specs.declared.kind.Kind.{Kind}
 use Rattle.type_rules.specs.declared.kind.Base.{Base}
 use Rattle.type_rules.specs.declared.kind.Base.TheVariants as base
-use Rattle.type_rules.specs.declared.role.Role.TheVariants as role
-use Rattle.type_rules.specs.Names.{Name, Names, TypeEntry, TypeSort, con_fields, param_name, param_type}
-use Rattle.type_rules.specs.Kinds.{bool_kind, is_open, kind_of, param_kinds}
-use Rattle.type_rules.specs.Queries.{names_of}
-use Rattle.type_rules.specs.Starts.{brace_of}
-use Rattle.type_rules.specs.Typing.{type_of}
-use Rattle.type_rules.specs.Sites.{Site}
-use Rattle.type_rules.specs.Matches.{Case, bound_sites, case, cases_of, con_case, declared_cases, maybe_cases, other_kinds, pattern_kinds, pattern_name, pattern_vars, sort_cases}
-use Rattle.type_rules.specs.ExprSites.{bool_whole, expr_sites, matched}
-use Rattle.type_rules.specs.Flow as flow
-use Rattle.type_rules.specs.Flow.{Sight, after, after_block}
-use Rattle.type_rules.specs.StmtSites.{Frame, scope_in, before_stmts, is_last, is_there, stmt_sites, block_sites, stmts_sites, else_sites, arm_sites}
-use Rattle.type_rules.specs.DeclSites.{declares_all, frame_for, named_all, param_sites, proc_sites, result_sites, sight_for, written_all}
-use Rattle.type_rules.specs.TextSites.{nothing_seen}
-use Rattle.type_rules.specs.Rules.{is_datatype_kind, rule, rules, rule18, rule24}
+use Rattle.type_rules.specs.Names.{Names, TypeEntry, TypeSort, con_fields}
+use Rattle.type_rules.specs.Kinds.{is_open, param_kinds}
+use Rattle.type_rules.specs.Matches.{Case, cases_of, con_case, declared_cases, maybe_cases, sort_cases}
 use Rattle.desugaring.specs.Appearances.{field_kinds}
-use Rattle.desugaring.specs.Parts.{each, Pointwise, no_members, more_members}
-use Rattle.desugaring.specs.Tables.{Con, Tables, con_decl, con_table, cons, cons_of, tables_of, ty_of, type_table}
-use Rattle.desugaring.specs.Callees.{Vars, vars_of}
-use Rattle.desugaring.specs.Statements.{Place, behind, in_pattern, inside, pattern_slots, slot_kinds}
-use Rattle.desugaring.specs.Runs.{Runs, BlockRuns, AllRun, ElseRuns, ArmsRun}
-use Rattle.desugaring.specs.Programs.{IsProc, IsProgramOf, ProcDecl, kinds_of_params, param_stands, procs_from, result_ty}
-use Rattle.desugaring.proofs.Options.{both_there, each_there, map_there}
+use Rattle.desugaring.specs.Parts.{each}
+use Rattle.desugaring.specs.Tables.{Con, Tables, con_decl, cons, cons_of, tables_of, ty_of, type_table}
+use Rattle.desugaring.specs.Programs.{IsProgramOf}
+use Rattle.desugaring.proofs.Options.{both_there, each_there}
 use Rattle.desugaring.proofs.Fields.{table_there}
-use Rattle.lawful.proofs.Alike.{alike_type}
-use Rattle.lawful.proofs.Arms.{there_are_cases}
-use Rattle.lawful.proofs.Basics.{known, when_not}
-use Rattle.lawful.proofs.Cons.{con_in, con_is, decl_parts, ty_parts}
-use Rattle.lawful.proofs.Crdts.{data_ordinary, kind_ordinary}
+use Rattle.lawful.proofs.Cons.{con_in, decl_parts}
+use Rattle.lawful.proofs.Crdts.{kind_ordinary}
 use Rattle.lawful.proofs.Distinct.{at_place}
-use Rattle.lawful.proofs.Forms.{head, one}
+use Rattle.lawful.proofs.Forms.{one}
 use Rattle.lawful.proofs.Ordinary.{AllData, EntryData, IsData, TypesData, datatypes_data, declared_data}
-use Rattle.lawful.proofs.Places.{Lawfully, all_both, all_lawful, all_parts, is_one_of}
-use Rattle.lawful.proofs.Results.{pointwise_all, procs_there}
+use Rattle.lawful.proofs.Places.{all_both, all_parts}
+use Rattle.lawful.proofs.Results.{pointwise_all}
 
 -- # Fields of constructors
 

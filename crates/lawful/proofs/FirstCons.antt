@@ -1,10 +1,10 @@
 -- Each datatype that a lawful text speaks of has a constructor.
-use Rattle.std.proofs.Common.{◌≡◌, ◌+◌, ℕ, zero, suc, Bool, true, false, not, ◌&&◌, ◌==◌, cond, List, [], ◌∷◌, ◌++◌, map, length, Option, Some, None, refl, ap, subst, sym, ◌∙◌, arith, inl, inr}
+use Rattle.std.proofs.Common.{◌≡◌, ◌+◌, ℕ, zero, suc, Bool, true, false, ◌&&◌, ◌==◌, cond, List, [], ◌∷◌, ◌++◌, map, length, Some, None, refl, ap, subst, sym, ◌∙◌, arith}
 use Rattle.std.specs.Prelude.{filter, flat_map, reverse, slice_get, unwrap_or}
 use Rattle.std.specs.List.{AllByRecursion}
 use Rattle.std.proofs.lemmas.Grind.{flat_map-append, reverse_onto}
 use Rattle.std.proofs.lemmas.List.{length-reverse, reverse-reverse}
-use Rattle.rp_grammar.specs.Trees.{Ident, ConTree, CrdtTree, CrdtForm, FieldTree, FieldTrees, ExprTree, ExprForm, QueryTree, DeclForm, DeclTree}
+use Rattle.rp_grammar.specs.Trees.{ConTree, CrdtTree, CrdtForm, FieldTree, FieldTrees, ExprTree, ExprForm, QueryTree, DeclForm, DeclTree}
 use Rattle.rp_grammar.specs.Texts.{IsText}
 use Rattle.rp_grammar.proofs.Formed.{FormedDecls}
 use Rattle.rp_grammar.proofs.FormedTexts.{Lexable, text_formed}
@@ -12,7 +12,7 @@ use Rattle.type_rules.specs.declared.kind.Kind.{Kind}
 use Rattle.type_rules.specs.declared.kind.Base.{Base}
 use Rattle.type_rules.specs.declared.kind.Base.TheVariants as base
 use Rattle.type_rules.specs.declared.role.Role.TheVariants as role
-use Rattle.type_rules.specs.Names.{Names, TypeEntry, TypeSort, con_fields, types_from, types_in}
+use Rattle.type_rules.specs.Names.{Names, TypeEntry, TypeSort, con_fields, types_from}
 use Rattle.type_rules.specs.Kinds.{bool_kind, is_open, kind_of, maybe_of, param_kinds, plain_kind}
 use Rattle.type_rules.specs.Queries.{names_of}
 use Rattle.type_rules.specs.Sites.{Site}
@@ -22,12 +22,11 @@ use Rattle.type_rules.specs.ExprSites.{asks, expr_sites}
 use Rattle.type_rules.specs.DeclSites.{invariant_sites, param_sites, proc_sites, query_sites, scope_for}
 use Rattle.type_rules.specs.TextSites.{Seen, nothing_seen, with_decl, decl_sites}
 use Rattle.type_rules.specs.Faults.{IsLawful}
-use Rattle.desugaring.specs.Appearances.{base_parts, crdt_kinds, each_once, field_kinds, fields_kinds, form_kinds, is_declared, kinds_from, maybes_of, parts, same_kind, site_kinds, sort_parts, with_maybes}
+use Rattle.desugaring.specs.Appearances.{base_parts, crdt_kinds, each_once, field_kinds, fields_kinds, form_kinds, is_declared, kinds_from, maybes_of, parts, site_kinds, sort_parts, with_maybes}
 use Rattle.desugaring.specs.Tables.{Con, cons_of, tables_of}
 use Rattle.lawful.proofs.Behind.{decl_parts}
 use Rattle.lawful.proofs.Closed.{AllClosed, AllTypes, IsClosed, TypeClosed, params_closed, written_closed}
 use Rattle.lawful.proofs.ClosedStmts.{invariant_types, proc_types, query_types}
-use Rattle.lawful.proofs.Forms.{one}
 use Rattle.lawful.proofs.Maybes.{left_at, right_at}
 use Rattle.lawful.proofs.Ordinary.{all_reverse, same_kinds}
 use Rattle.lawful.proofs.Places.{Lawfully, all_both, all_lawful, all_parts, types_are}

@@ -1,19 +1,19 @@
 -- `Maybe` of a type in a lawful text's program: its constructors are `none` and `some`, of one field of the type.
-use Rattle.std.proofs.Common.{◌≡◌, ◌+◌, ℕ, zero, suc, Bool, true, false, ◌&&◌, ◌==◌, cond, List, [], ◌∷◌, ◌++◌, map, length, codes, Option, Some, None, refl, ap, subst, sym, ◌∙◌, arith}
-use Rattle.std.specs.Prelude.{flat_map, nat_eq, option_map, slice_get, unwrap_or}
-use Rattle.std.proofs.lemmas.Bool.{and_from, eqb-true, ne_eqb, or_parts}
+use Rattle.std.proofs.Common.{◌≡◌, ◌+◌, ℕ, zero, suc, true, false, ◌&&◌, ◌==◌, cond, List, [], ◌∷◌, ◌++◌, map, length, codes, Some, None, refl, ap, subst, sym, ◌∙◌, arith}
+use Rattle.std.specs.Prelude.{flat_map, slice_get, unwrap_or}
+use Rattle.std.proofs.lemmas.Bool.{and_from, ne_eqb, or_parts}
 use Rattle.rp_value.specs.declared.tables.Ty.{Ty}
 use Rattle.rp_value.specs.declared.tables.Ty.TheVariants as ty
 use Rattle.rp_value.specs.declared.tables.ConDecl.{ConDecl}
 use Rattle.rp_grammar.specs.Trees.{DeclTree}
 use Rattle.rp_lang.specs.Programs.{Prog}
-use Rattle.rp_lang.specs.Types.{are_none_and_some, cons_of as numbers_of, is_bare_con, is_con_with, is_maybe_of, is_one}
+use Rattle.rp_lang.specs.Types.{are_none_and_some, cons_of as numbers_of, is_bare_con, is_con_with, is_maybe_of}
 use Rattle.type_rules.specs.declared.kind.Kind.{Kind}
 use Rattle.type_rules.specs.Names.{Names}
 use Rattle.type_rules.specs.Kinds.{is_any, is_open, is_unknown, maybe_of}
 use Rattle.type_rules.specs.Matches.{Case, cases_of, maybe_cases}
 use Rattle.desugaring.specs.Parts.{each}
-use Rattle.desugaring.specs.Tables.{Con, Tables, base_ty, con_decl, con_of, con_table, cons, cons_of, datatype_number, datatype_ty, tables_of, ty_of, type_table, up_from}
+use Rattle.desugaring.specs.Tables.{Con, Tables, base_ty, con_decl, con_of, con_table, cons, cons_of, datatype_number, datatype_ty, tables_of, ty_of, up_from}
 use Rattle.desugaring.specs.Programs.{IsProgramOf}
 use Rattle.desugaring.proofs.Fields.{each_at, table_there}
 use Rattle.desugaring.proofs.Options.{both_there, map_there}

@@ -1,32 +1,30 @@
 -- The constructors of each datatype of a lawful text's program are the next ones, in order.
-use Rattle.std.proofs.Common.{◌≡◌, ◌+◌, ◌<◌, ℕ, zero, suc, Bool, true, false, ◌&&◌, ◌==◌, List, [], ◌∷◌, ◌++◌, map, length, Option, Some, None, refl, ap, subst, sym, ◌∙◌, arith}
+use Rattle.std.proofs.Common.{◌≡◌, ◌+◌, ◌<◌, ℕ, zero, suc, true, ◌==◌, List, [], ◌∷◌, length, Some, refl, ap, subst, sym, ◌∙◌, arith}
 use Rattle.std.specs.Prelude.{flat_map, nat_lt, slice_get, unwrap_or}
-use Rattle.std.specs.List.{AllByRecursion, IsDistinct}
+use Rattle.std.specs.List.{IsDistinct}
 use Rattle.std.proofs.lemmas.Bool.{and_from, eq-eqb, lt-ltb}
 use Rattle.std.proofs.lemmas.List.{length-append}
 use Rattle.std.proofs.lemmas.Option.{slice_get_within}
-use Rattle.rp_value.specs.declared.tables.Ty.{Ty}
 use Rattle.rp_value.specs.declared.tables.Ty.TheVariants as ty
 use Rattle.rp_value.specs.declared.tables.ConDecl.{ConDecl}
 use Rattle.rp_grammar.specs.Trees.{DeclTree}
 use Rattle.rp_grammar.specs.Texts.{IsText}
 use Rattle.rp_lang.specs.Programs.{Prog}
-use Rattle.rp_lang.specs.Types.{are_numbered, are_tables, datatype_in, datatype_of, has_next, is_run, is_ty}
+use Rattle.rp_lang.specs.Types.{are_numbered, datatype_in, datatype_of, is_run, is_ty}
 use Rattle.type_rules.specs.declared.kind.Kind.{Kind}
 use Rattle.type_rules.specs.Names.{Names}
 use Rattle.type_rules.specs.Kinds.{bool_kind}
-use Rattle.type_rules.specs.Matches.{Case, cases_of}
+use Rattle.type_rules.specs.Matches.{cases_of}
 use Rattle.type_rules.specs.Queries.{names_of}
 use Rattle.desugaring.specs.Appearances.{kinds_from, same_kind}
 use Rattle.desugaring.specs.Parts.{each}
-use Rattle.desugaring.specs.Tables.{Con, Tables, con_decl, con_of, con_table, cons, cons_of, data_decls, datatype_number, tables_of, ty_of, type_table, up_from}
-use Rattle.desugaring.specs.Limits.{HasProgram}
+use Rattle.desugaring.specs.Tables.{Con, Tables, con_decl, con_of, con_table, cons, cons_of, data_decls, datatype_number, tables_of, ty_of, up_from}
 use Rattle.desugaring.specs.Programs.{IsProgramOf}
 use Rattle.desugaring.proofs.Fields.{each_length, table_there}
 use Rattle.desugaring.proofs.Options.{both_there}
 use Rattle.lawful.proofs.Blocks.{case_at, its_own, kinds_differ, start}
 use Rattle.lawful.proofs.Distinct.{unique, up_length}
-use Rattle.lawful.proofs.FirstCons.{AllFirst, HasFirst, datatypes_first}
+use Rattle.lawful.proofs.FirstCons.{AllFirst, datatypes_first}
 use Rattle.lawful.proofs.Maybes.{made_there}
 
 -- what is known of the tables

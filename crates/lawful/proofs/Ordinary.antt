@@ -1,47 +1,31 @@
 -- The datatypes that a lawful text speaks of are made of types of data.
-use Rattle.std.proofs.Common.{◌≡◌, ◌+◌, ℕ, zero, suc, Bool, true, false, not, ◌&&◌, ◌||◌, ◌==◌, cond, List, [], ◌∷◌, ◌++◌, map, length, Option, Some, None, refl, ap, subst, sym, ◌∙◌, arith}
-use Rattle.std.specs.Prelude.{filter, flat_map, nat_eq, reverse, slice_get, unwrap_or}
-use Rattle.std.specs.List.{AllByRecursion, list_all}
-use Rattle.std.proofs.lemmas.Bool.{and_from, ne_eqb, not-false, or_left, or_parts, or_right, true≢false}
+use Rattle.std.proofs.Common.{◌≡◌, ◌+◌, ℕ, zero, suc, Bool, true, false, not, ◌&&◌, ◌||◌, cond, List, [], ◌∷◌, ◌++◌, map, length, Option, Some, None, refl, ap, subst, sym, ◌∙◌, arith}
+use Rattle.std.specs.Prelude.{filter, flat_map, nat_eq, reverse}
+use Rattle.std.specs.List.{AllByRecursion}
+use Rattle.std.proofs.lemmas.Bool.{ne_eqb, not-false, or_left, or_parts, true≢false}
 use Rattle.std.proofs.lemmas.Grind.{flat_map-append, reverse_onto}
 use Rattle.rp_span.specs.declared.Span.{Span}
-use Rattle.rp_value.specs.declared.tables.Ty.{Ty}
-use Rattle.rp_value.specs.declared.tables.ConDecl.{ConDecl}
-use Rattle.rp_value.specs.declared.tables.TypeTable.{TypeTable}
-use Rattle.rp_grammar.specs.Trees.{Ident, TypeTree, TypeForm, ParamTree, ConTree, CrdtTree, CrdtForm, FieldTree, FieldTrees, ExprTree, ExprForm, QueryTree, DeclForm, DeclTree}
-use Rattle.rp_lang.specs.Programs.{Prog}
-use Rattle.rp_lang.specs.Types.{are_ordinary, are_ordinary_fields, is_ordinary}
+use Rattle.rp_grammar.specs.Trees.{TypeTree, TypeForm, ParamTree, ConTree, CrdtTree, CrdtForm, FieldTree, FieldTrees, ExprTree, ExprForm, QueryTree, DeclForm, DeclTree}
 use Rattle.type_rules.specs.declared.kind.Kind.{Kind}
 use Rattle.type_rules.specs.declared.kind.Base.{Base}
 use Rattle.type_rules.specs.declared.kind.Base.TheVariants as base
 use Rattle.type_rules.specs.declared.role.Role.{Role}
 use Rattle.type_rules.specs.declared.role.Role.TheVariants as role
-use Rattle.type_rules.specs.Names.{Name, Names, TypeEntry, TypeSort, con_fields, param_name, param_type, type_number, types_from, types_in}
-use Rattle.type_rules.specs.Kinds.{bool_kind, maybe_of, plain_kind, form_kind, innermost, innermost_form, is_ordinary_base, is_open, kind_of, named_kind, param_kinds}
+use Rattle.type_rules.specs.Names.{Names, TypeEntry, TypeSort, param_name, param_type, type_number, types_from}
+use Rattle.type_rules.specs.Kinds.{bool_kind, maybe_of, plain_kind, form_kind, innermost, innermost_form, is_ordinary_base, kind_of, named_kind, param_kinds}
 use Rattle.type_rules.specs.Queries.{names_of}
 use Rattle.type_rules.specs.Typing.{type_of}
-use Rattle.type_rules.specs.Sites.{Scope, Want, Site}
-use Rattle.type_rules.specs.Matches.{Case, case, cases_of, con_case, declared_cases, maybe_cases, sort_cases}
+use Rattle.type_rules.specs.Sites.{Site}
 use Rattle.type_rules.specs.ExprSites.{asks, expr_sites}
-use Rattle.type_rules.specs.DeclSites.{con_sites, crdt_form_sites, crdt_sites, declares_all, field_names, fields_sites, invariant_sites, named_all, param_sites, proc_sites, query_sites, scope_for, written_all}
+use Rattle.type_rules.specs.DeclSites.{con_sites, crdt_form_sites, crdt_sites, field_names, fields_sites, invariant_sites, named_all, param_sites, proc_sites, query_sites, scope_for, written_all}
 use Rattle.type_rules.specs.TextSites.{Seen, nothing_seen, with_decl, decl_sites}
 use Rattle.type_rules.specs.Rules.{is_call_form, is_maybe_form, form_of, rule, rules, rule06, rule07, rule10, stray_word, takes_calls, when}
 use Rattle.type_rules.specs.Faults.{IsLawful}
-use Rattle.desugaring.specs.Appearances.{base_parts, crdt_kinds, datatypes_of, decl_kinds, each_once, field_kinds, fields_kinds, form_kinds, is_declared, kinds_from, maybes_of, parts, same_kind, site_kinds, some_parts, sort_parts, with_maybes}
-use Rattle.desugaring.specs.Parts.{each, Pointwise}
-use Rattle.desugaring.specs.Tables.{Con, Tables, con_decl, con_table, cons, cons_of, tables_of, ty_of, type_table}
-use Rattle.desugaring.specs.Programs.{IsProgramOf}
-use Rattle.desugaring.proofs.Options.{both_there, each_there}
-use Rattle.desugaring.proofs.Fields.{table_there}
+use Rattle.desugaring.specs.Appearances.{base_parts, crdt_kinds, each_once, field_kinds, fields_kinds, form_kinds, is_declared, kinds_from, maybes_of, parts, site_kinds, sort_parts, with_maybes}
+use Rattle.desugaring.specs.Tables.{cons, tables_of}
 use Rattle.lawful.proofs.Basics.{when_not}
 use Rattle.lawful.proofs.Behind.{decl_parts}
-use Rattle.lawful.proofs.Cons.{con_in}
-use Rattle.lawful.proofs.Cons as cons_
-use Rattle.lawful.proofs.Crdts.{kind_ordinary}
-use Rattle.lawful.proofs.Distinct.{all_changed, at_place}
-use Rattle.lawful.proofs.Forms.{one}
 use Rattle.lawful.proofs.Places.{Lawfully, all_both, all_lawful, all_parts, is_one_of, types_are}
-use Rattle.lawful.proofs.Results.{pointwise_all}
 use Rattle.lawful.proofs.Speaking.{speaking, spoken}
 
 -- a type of data, as far as its base tells

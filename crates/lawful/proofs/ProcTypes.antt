@@ -1,16 +1,16 @@
 -- The bodies of a lawful text's procedures are well typed.
-use Rattle.std.proofs.Common.{◌≡◌, ◌+◌, ℕ, Bool, true, false, not, ◌&&◌, ◌||◌, List, [], ◌∷◌, ◌++◌, map, length, Option, Some, None, refl, ap, subst, sym, ◌∙◌, arith}
+use Rattle.std.proofs.Common.{◌≡◌, ◌+◌, ℕ, Bool, true, false, not, ◌||◌, List, [], ◌∷◌, ◌++◌, map, length, Option, Some, None, refl, ap, subst, sym, ◌∙◌, arith}
 use Rattle.std.specs.Prelude.{option_map, slice_get}
 use Rattle.std.specs.List.{AllByRecursion, list_all, list_any}
 use Rattle.std.proofs.lemmas.Bool.{and_from, not-false, or_parts}
 use Rattle.std.proofs.lemmas.List.{append_assoc, length-append, length-map}
 use Rattle.rp_span.specs.declared.Span.{Span}
 use Rattle.rp_value.specs.declared.tables.Ty.{Ty}
-use Rattle.rp_grammar.specs.Trees.{Ident, TypeTree, ParamTree, ProcTree, DeclTree}
+use Rattle.rp_grammar.specs.Trees.{TypeTree, ParamTree, ProcTree, DeclTree}
 use Rattle.rp_grammar.specs.Texts.{IsText}
 use Rattle.rp_grammar.proofs.Formed.{FormedProc}
 use Rattle.rp_grammar.proofs.FormedTexts.{Lexable, text_formed}
-use Rattle.rp_lang.specs.declared.limit.LimitName.TheVariants.{Depth, Quantifiers, Nodes}
+use Rattle.rp_lang.specs.declared.limit.LimitName.TheVariants.{Depth, Nodes}
 use Rattle.rp_lang.specs.Exprs.{Ex, Exs, no_ex, also_ex}
 use Rattle.rp_lang.specs.Formulas.{Fo}
 use Rattle.rp_lang.specs.Sizes.{ex_depth, ex_nodes}
@@ -34,8 +34,8 @@ use Rattle.desugaring.specs.Appearances.{kinds_from}
 use Rattle.desugaring.specs.Parts.{each, Pointwise, no_members, more_members}
 use Rattle.desugaring.specs.Tables.{Tables, tables_of, ty_of}
 use Rattle.desugaring.specs.Statements.{slot_kinds, slotted}
-use Rattle.desugaring.specs.Limits.{HasProgram, Test, binds_much, is_deep, is_large, is_past, some_in, some_in_all, some_in_arms, some_term, some_expression}
-use Rattle.desugaring.specs.Programs.{IsProc, ProcDecl, body_place, kinds_of_params, param_stands, procs_from, result_ty}
+use Rattle.desugaring.specs.Limits.{HasProgram, binds_much, is_deep, is_large, is_past, some_in, some_in_all, some_in_arms, some_term}
+use Rattle.desugaring.specs.Programs.{IsProc, ProcDecl, body_place, procs_from, result_ty}
 use Rattle.desugaring.proofs.Options.{both_there, map_there}
 use Rattle.lawful.specs.Kept.{AllKept, may_speak}
 use Rattle.lawful.proofs.Arms.{cases_fit}

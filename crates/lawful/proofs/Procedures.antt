@@ -1,8 +1,7 @@
 -- The procedures of a lawful text whose program passes no limit are well formed.
-use Rattle.std.proofs.Common.{◌≡◌, ◌+◌, ℕ, zero, suc, true, ◌&&◌, List, [], ◌∷◌, ◌++◌, map, length, Option, Some, None, refl, ap, subst, sym, ◌∙◌}
+use Rattle.std.proofs.Common.{◌≡◌, ℕ, zero, suc, true, ◌&&◌, List, [], ◌∷◌, ◌++◌, map, length, Option, Some, None, refl, subst}
 use Rattle.std.specs.Prelude.{nat_le, option_map, slice_get}
 use Rattle.std.specs.List.{AllByRecursion, list_all}
-use Rattle.std.specs.Option.{option_map_or}
 use Rattle.std.proofs.lemmas.Bool.{and_from, and_parts, eqb-true}
 use Rattle.rp_span.specs.declared.Span.{Span}
 use Rattle.rp_value.specs.declared.tables.Ty.{Ty}
@@ -14,11 +13,11 @@ use Rattle.rp_grammar.proofs.Formed.{FormedProc}
 use Rattle.rp_grammar.proofs.FormedTexts.{Lexable, text_formed}
 use Rattle.rp_lang.specs.Programs.{Proc, Prog}
 use Rattle.rp_lang.specs.Sizes.{sts_count}
-use Rattle.rp_lang.specs.Types.{are_ordinary, fields_in, is_ordinary}
+use Rattle.rp_lang.specs.Types.{are_ordinary, fields_in}
 use Rattle.rp_lang.specs.WellFormed.{are_procs, at_start, begins, has_body, is_procedure, is_result, returns_a_value}
 use Rattle.type_rules.specs.declared.kind.Kind.{Kind}
 use Rattle.type_rules.specs.declared.role.Role.TheVariants as role
-use Rattle.type_rules.specs.Names.{Names, param_name, param_type}
+use Rattle.type_rules.specs.Names.{param_name, param_type}
 use Rattle.type_rules.specs.Kinds.{kind_of, param_kinds}
 use Rattle.type_rules.specs.Queries.{names_of}
 use Rattle.type_rules.specs.Starts.{brace_of}
@@ -40,7 +39,7 @@ use Rattle.lawful.proofs.ProcFlows.{all_pairs, at_first, params_long, procs_form
 use Rattle.lawful.proofs.ProcHeads.{proc_heads}
 use Rattle.lawful.proofs.ProcTypes.{bodies_typed}
 use Rattle.lawful.proofs.Results.{pointwise_all, procs_there}
-use Rattle.lawful.proofs.SlotTypes.{AllOrdinary, IsOrdinary, Results, Tabled, block_slots, written_ordinary}
+use Rattle.lawful.proofs.SlotTypes.{AllOrdinary, IsOrdinary, Tabled, block_slots, written_ordinary}
 
 -- # The tables
 

@@ -1,9 +1,8 @@
 -- The operations of a lawful text's roots are well formed.
-use Rattle.std.proofs.Common.{◌≡◌, ◌+◌, ◌-◌, ◌≤◌, ℕ, zero, suc, Bool, true, false, not, ◌&&◌, ◌||◌, cond, List, [], ◌∷◌, ◌++◌, map, length, Option, Some, None, refl, ap, subst, sym, ◌∙◌, arith, inl, inr}
+use Rattle.std.proofs.Common.{◌≡◌, ◌+◌, ◌-◌, ℕ, zero, suc, Bool, true, false, cond, List, [], ◌∷◌, ◌++◌, length, Some, None, refl, ap, subst, sym, ◌∙◌, arith, inl, inr}
 use Rattle.std.specs.Prelude.{nat_le, option_map, slice_get}
-use Rattle.std.specs.List.{AllByRecursion, list_all, list_any}
+use Rattle.std.specs.List.{list_all, list_any}
 use Rattle.std.proofs.lemmas.Bool.{and_from, and_parts, not-false, or_parts}
-use Rattle.rp_span.specs.declared.Span.{Span}
 use Rattle.rp_value.specs.declared.tables.Ty.{Ty}
 use Rattle.rp_value.specs.declared.tables.Ty.TheVariants as ty
 use Rattle.rp_grammar.specs.Trees.{CrdtTree, CrdtForm, FieldTree, FieldTrees, DeclTree}
@@ -19,16 +18,15 @@ use Rattle.rp_lang.specs.Programs.{Prog, Rt}
 use Rattle.rp_lang.specs.Types.{is_one, same_ty}
 use Rattle.rp_lang.specs.WellFormed.{are_ops}
 use Rattle.type_rules.specs.declared.kind.Kind.{Kind}
-use Rattle.type_rules.specs.Names.{Names, text_of}
+use Rattle.type_rules.specs.Names.{text_of}
 use Rattle.type_rules.specs.Kinds.{int_kind, kind_of}
 use Rattle.type_rules.specs.Queries.{names_of}
 use Rattle.type_rules.specs.Paths.{form_of}
 use Rattle.type_rules.specs.Faults.{IsOneOf}
 use Rattle.desugaring.specs.Parts.{each}
-use Rattle.desugaring.specs.Objects.{KindStep, field, key, keys_on, op_kinds, ops_at, OwnOp, own_ops, PathOp, Root}
+use Rattle.desugaring.specs.Objects.{KindStep, field, key, keys_on, op_kinds, ops_at, OwnOp, own_ops, PathOp}
 use Rattle.desugaring.specs.Tables.{Tables, cr_of, fields_cr, form_cr, op_decl, op_with, root_of, root_with, step_of, tables_of, ty_of}
-use Rattle.desugaring.specs.Limits.{HasProgram, has_long_path, is_past}
-use Rattle.desugaring.specs.Programs.{IsProgramOf}
+use Rattle.desugaring.specs.Limits.{HasProgram, is_past}
 use Rattle.desugaring.proofs.Fields.{each_at}
 use Rattle.desugaring.proofs.Options.{both_there, each_there, map_there}
 use Rattle.lawful.proofs.Calls.{last_types}
@@ -36,7 +34,7 @@ use Rattle.lawful.proofs.Forms.{one, same_self}
 use Rattle.lawful.proofs.Results.{pointwise_all}
 use Rattle.lawful.proofs.RootCalls.{IsOpOf, OnRoot, on_roots, ops_made}
 use Rattle.lawful.proofs.Roots.{Reaches, field_at}
-use Rattle.lawful.proofs.Within.{Within, within}
+use Rattle.lawful.proofs.Within.{within}
 
 -- # Where a path leads
 

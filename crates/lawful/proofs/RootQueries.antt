@@ -1,6 +1,6 @@
 -- The queries of a lawful text's roots are well formed.
-use Rattle.std.proofs.Common.{◌≡◌, ◌+◌, ℕ, Bool, true, false, ◌&&◌, List, [], ◌∷◌, ◌++◌, length, Option, Some, None, refl, ap, subst, sym, ◌∙◌, arith, inl, inr}
-use Rattle.std.specs.Prelude.{nat_le, slice_get}
+use Rattle.std.proofs.Common.{◌≡◌, ◌+◌, ℕ, Bool, true, false, ◌&&◌, List, [], ◌∷◌, length, Some, refl, ap, subst, sym, ◌∙◌, arith, inl, inr}
+use Rattle.std.specs.Prelude.{slice_get}
 use Rattle.std.specs.List.{list_all, list_any}
 use Rattle.std.proofs.lemmas.Bool.{and_from, and_parts, not-false, or_parts}
 use Rattle.rp_value.specs.declared.tables.Ty.{Ty}
@@ -21,14 +21,13 @@ use Rattle.type_rules.specs.Queries.{names_of}
 use Rattle.type_rules.specs.Paths.{form_of}
 use Rattle.type_rules.specs.Faults.{IsOneOf}
 use Rattle.desugaring.specs.Parts.{each}
-use Rattle.desugaring.specs.Objects.{keys_on, query_kinds, queries_at, OwnQuery, own_queries, PathQuery, Root}
+use Rattle.desugaring.specs.Objects.{keys_on, query_kinds, queries_at, OwnQuery, own_queries, PathQuery}
 use Rattle.desugaring.specs.Tables.{Tables, cr_of, form_cr, query_decl, query_with, root_of, root_with, step_of, tables_of, ty_of}
 use Rattle.desugaring.specs.Limits.{HasProgram, is_past}
-use Rattle.desugaring.specs.Programs.{IsProgramOf}
 use Rattle.desugaring.proofs.Fields.{each_at}
 use Rattle.desugaring.proofs.Options.{both_there, each_there, map_there, three_there}
 use Rattle.lawful.proofs.Calls.{last_types}
-use Rattle.lawful.proofs.Forms.{one, same_self}
+use Rattle.lawful.proofs.Forms.{one}
 use Rattle.lawful.proofs.Maybes.{maybe_fits}
 use Rattle.lawful.proofs.Results.{pointwise_all}
 use Rattle.lawful.proofs.RootCalls.{IsQueryOf, OnRoot, on_roots, queries_made}

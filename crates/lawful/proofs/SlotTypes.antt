@@ -1,55 +1,43 @@
 -- The slots and the result of a lawful text's procedures are of types of data.
-use Rattle.std.proofs.Common.{◌≡◌, ◌+◌, ℕ, Bool, true, false, ◌||◌, List, [], ◌∷◌, ◌++◌, map, length, Option, Some, None, refl, ap, subst, sym, ◌∙◌, arith}
-use Rattle.std.specs.Prelude.{nat_eq, nat_lt, option_map}
-use Rattle.std.specs.List.{AllByRecursion, list_all}
-use Rattle.std.proofs.lemmas.Bool.{and_from, and_parts, eqb-true, not-false, or_left}
+use Rattle.std.proofs.Common.{◌≡◌, ◌+◌, ℕ, Bool, true, ◌||◌, List, [], ◌∷◌, ◌++◌, length, Some, None, refl, ap, subst, sym, ◌∙◌, arith}
+use Rattle.std.specs.List.{AllByRecursion}
+use Rattle.std.proofs.lemmas.Bool.{and_parts, not-false}
 use Rattle.rp_span.specs.declared.Span.{Span}
 use Rattle.rp_value.specs.declared.tables.Ty.{Ty}
-use Rattle.rp_grammar.specs.Trees.{Ident, ExprTree, TypeTree, ParamTree, PatternTree, ProcTree, BlockTree, StmtTree, StmtForm, StmtTrees, ElseTree, BlockArmTrees, DeclTree}
-use Rattle.rp_grammar.specs.Texts.{IsText}
-use Rattle.rp_grammar.proofs.Formed.{FormedProc, FormedStmt, FormedBlock, FormedStmts, FormedElse, FormedBlockArms}
-use Rattle.rp_grammar.proofs.FormedTexts.{Lexable, text_formed}
+use Rattle.rp_grammar.specs.Trees.{Ident, ExprTree, TypeTree, PatternTree, BlockTree, StmtTree, StmtTrees, ElseTree, BlockArmTrees}
+use Rattle.rp_grammar.proofs.Formed.{FormedStmt, FormedBlock, FormedStmts, FormedElse, FormedBlockArms}
+use Rattle.rp_grammar.proofs.FormedTexts.{Lexable}
 use Rattle.rp_lang.specs.Blocks.{is_slot}
 use Rattle.rp_lang.specs.Stmts.{Sts, StArms}
-use Rattle.rp_lang.specs.Programs.{Proc, Prog}
+use Rattle.rp_lang.specs.Programs.{Prog}
 use Rattle.rp_lang.specs.Types.{are_ordinary, fields_of, is_ordinary}
-use Rattle.rp_lang.specs.WellFormed.{at_start, is_result}
 use Rattle.type_rules.specs.declared.kind.Kind.{Kind}
 use Rattle.type_rules.specs.declared.kind.Base.TheVariants as base
 use Rattle.type_rules.specs.declared.role.Role.TheVariants as role
-use Rattle.type_rules.specs.Names.{Name, Names, param_name, param_type}
-use Rattle.type_rules.specs.Kinds.{bool_kind, is_any, kind_of, param_kinds}
-use Rattle.type_rules.specs.Queries.{names_of}
-use Rattle.type_rules.specs.Starts.{brace_of}
+use Rattle.type_rules.specs.Names.{Name, Names}
+use Rattle.type_rules.specs.Kinds.{is_any, kind_of}
 use Rattle.type_rules.specs.Typing.{type_of}
 use Rattle.type_rules.specs.Sites.{Site}
-use Rattle.type_rules.specs.Matches.{bound_sites, cases_of, other_kinds, pattern_kinds, pattern_name, pattern_vars}
+use Rattle.type_rules.specs.Matches.{bound_sites, cases_of, pattern_kinds, pattern_name, pattern_vars}
 use Rattle.type_rules.specs.ExprSites.{bool_whole, expr_sites, matched}
 use Rattle.type_rules.specs.Flow as flow
 use Rattle.type_rules.specs.Flow.{Sight, after, after_block}
-use Rattle.type_rules.specs.StmtSites.{Frame, scope_in, before_stmts, is_last, is_there, stmt_sites, block_sites, stmts_sites, else_sites, arm_sites}
-use Rattle.type_rules.specs.DeclSites.{declares_all, frame_for, named_all, param_sites, proc_sites, result_sites, sight_for, written_all}
-use Rattle.type_rules.specs.TextSites.{nothing_seen}
+use Rattle.type_rules.specs.StmtSites.{Frame, scope_in, before_stmts, is_last, stmt_sites, block_sites, stmts_sites, else_sites, arm_sites}
 use Rattle.type_rules.specs.Rules.{is_datatype_kind, rule, rules, rule18, rule24}
-use Rattle.desugaring.specs.Parts.{each, Pointwise}
-use Rattle.desugaring.specs.Tables.{Tables, arm_number, tables_of, ty_of, type_table, up_from}
+use Rattle.desugaring.specs.Parts.{each}
+use Rattle.desugaring.specs.Tables.{Tables, arm_number, ty_of, type_table, up_from}
 use Rattle.desugaring.specs.Callees.{Vars, vars_of}
 use Rattle.desugaring.specs.Statements.{Place, behind, in_pattern, inside, pattern_slots, slot_kinds}
 use Rattle.desugaring.specs.Runs.{Returns, Runs, BlockRuns, AllRun, ElseRuns, ArmsRun}
-use Rattle.desugaring.specs.Programs.{IsProc, IsProgramOf, ProcDecl, kinds_of_params, procs_from, result_ty}
-use Rattle.desugaring.proofs.Options.{both_there, map_there}
+use Rattle.desugaring.proofs.Options.{both_there}
 use Rattle.lawful.proofs.Alike.{alike_type}
 use Rattle.lawful.proofs.Arms.{there_are_cases}
 use Rattle.lawful.proofs.Basics.{known, when_not}
-use Rattle.lawful.proofs.Cons.{arm_is, arm_many_is, ty_parts}
+use Rattle.lawful.proofs.Cons.{ty_parts}
 use Rattle.lawful.proofs.Crdts.{data_ordinary, kind_ordinary}
-use Rattle.lawful.proofs.DataFields.{fields_ordinary}
-use Rattle.lawful.proofs.Distinct.{at_place}
 use Rattle.lawful.proofs.Flows.{Here, Laws, With, arm_here, here_later, is_if, row_here, stmt_flow}
 use Rattle.lawful.proofs.Forms.{one}
-use Rattle.lawful.proofs.Places.{Lawfully, all_both, all_lawful, all_parts, is_one_of}
-use Rattle.lawful.proofs.ProcFlows.{all_pairs, at_first, params_long, procs_formed}
-use Rattle.lawful.proofs.Results.{pointwise_all, procs_there}
+use Rattle.lawful.proofs.Places.{Lawfully, all_both, all_parts, is_one_of}
 use Rattle.lawful.proofs.Slotted.{slots_alike}
 
 -- the type of the kind is one of data

@@ -1,26 +1,23 @@
 -- Assignments, new identifiers, operations and returns are well typed.
-use Rattle.std.proofs.Common.{◌≡◌, ◌+◌, ◌≤◌, ◌<◌, ℕ, zero, suc, Bool, true, false, not, ◌&&◌, ◌||◌, cond, List, [], ◌∷◌, ◌++◌, length, Option, Some, None, refl, ap, subst, sym, ◌∙◌, arith}
-use Rattle.std.specs.Prelude.{is_none, is_some, nat_eq, nat_lt, option_and_then, option_map, slice_get}
-use Rattle.std.proofs.lemmas.Bool.{and_from, and_parts, eqb-true, lt-ltb, not-false, not-true, or_left, or_parts, or_right, true≢false}
-use Rattle.std.proofs.lemmas.Cmp.{nat_list_eq_equiv}
+use Rattle.std.proofs.Common.{◌≡◌, ◌+◌, ℕ, Bool, true, false, not, ◌&&◌, cond, List, [], ◌∷◌, ◌++◌, length, Option, Some, None, refl, ap, subst, sym, ◌∙◌, arith}
+use Rattle.std.specs.Prelude.{nat_lt, option_and_then, option_map, slice_get}
+use Rattle.std.proofs.lemmas.Bool.{and_from, and_parts, lt-ltb, not-false, not-true, or_left, or_parts, or_right, true≢false}
 use Rattle.rp_span.specs.declared.Span.{Span}
 use Rattle.rp_value.specs.declared.tables.Ty.{Ty}
 use Rattle.rp_value.specs.declared.tables.Ty.TheVariants as ty
 use Rattle.rp_grammar.specs.Trees.{Ident, ExprTree, QueryTree, StepTrees, ArgTrees}
 use Rattle.rp_lang.specs.Exprs.{Ex, Slot, OpTerm, Exs, no_ex, also_ex}
-use Rattle.rp_lang.specs.Stmts.{St, New, Operate, ReturnWith, Put, Decide, Sts, also_st, no_st}
+use Rattle.rp_lang.specs.Stmts.{St, New, ReturnWith, Put, Decide, Sts, also_st}
 use Rattle.rp_lang.specs.Programs.{Prog}
 use Rattle.rp_lang.specs.Flow.{sets}
-use Rattle.rp_lang.specs.Types.{agree, fields_of}
 use Rattle.rp_lang.specs.Bounds.{are_small_exs, is_small_ex}
 use Rattle.rp_lang.specs.Typing.{Frame, have_types, op_args}
-use Rattle.rp_lang.specs.Blocks.{are_stmts, behind, can_operate, is_return, is_slot, is_stmt, plain_type, take_fields, takes}
+use Rattle.rp_lang.specs.Blocks.{are_stmts, behind, can_operate, is_return, is_stmt, plain_type, take_fields, takes}
 use Rattle.type_rules.specs.declared.kind.Kind.{Kind}
 use Rattle.type_rules.specs.Names.{Name, entry_named, same_name, text_of, type_named, type_number}
 use Rattle.type_rules.specs.Kinds.{fits, named_kind}
 use Rattle.type_rules.specs.Accesses.{Access, Var, args_of, find_var, of_entry, of_name}
 use Rattle.type_rules.specs.ExprSites.{asks, expr_sites, given_sites, step_sites, way_from}
-use Rattle.type_rules.specs.Matches.{first_kind, other_kinds}
 use Rattle.type_rules.specs.Rules.{is_fixed, is_id_type, is_made_wrong, is_other_type, is_statement}
 use Rattle.type_rules.specs.Sites.{Scope}
 use Rattle.type_rules.specs.Paths.{Member, is_operation}
@@ -28,25 +25,24 @@ use Rattle.rp_lang.specs.Typing.{is_get}
 use Rattle.desugaring.specs.Objects.{Reached, follow, is_op_at, is_query_at}
 use Rattle.desugaring.specs.Parts.{each}
 use Rattle.desugaring.specs.Tables.{Tables, ty_of, up_from}
-use Rattle.desugaring.specs.Values.{Value, append, term, formula, reads, ex_reads, exs_read}
-use Rattle.desugaring.specs.Callees.{Callee, Called, Stand, Vars, constructor, given, of_access, op_called, operation, outcome, outcome_with, procedure, question, stand, stand_named, use_of, value, variable, taking, located, member_at, on_root, query_called}
-use Rattle.desugaring.specs.Statements.{Place, assigned, block_of_one, id_named, id_number, is_apart, one_st, slot_for, slot_in, slot_kinds}
+use Rattle.desugaring.specs.Values.{Value, append, term, formula, reads}
+use Rattle.desugaring.specs.Callees.{Callee, Called, Stand, Vars, constructor, given, of_access, op_called, operation, outcome, procedure, question, stand, stand_named, use_of, value, variable, taking, located, member_at, on_root, query_called}
+use Rattle.desugaring.specs.Statements.{Place, assigned, block_of_one, id_named, id_number, one_st, slot_for, slot_kinds}
 use Rattle.desugaring.specs.Meanings.{Means}
 use Rattle.desugaring.specs.Runs.{Assigns, Returns}
-use Rattle.desugaring.specs.Limits.{some_in, some_in_all, some_term}
+use Rattle.desugaring.specs.Limits.{some_in, some_term}
 use Rattle.desugaring.proofs.Options.{both_there, map_there}
 use Rattle.lawful.specs.Slots.{InSlots}
-use Rattle.lawful.specs.Typed.{AreTerms, Gives, Along}
+use Rattle.lawful.specs.Typed.{Gives}
 use Rattle.lawful.proofs.Accessed.{Args, Keys}
 use Rattle.lawful.proofs.Basics.{Looks, fits_one, known, split}
 use Rattle.lawful.proofs.Calls.{first_types, joined, last_types}
 use Rattle.lawful.proofs.Flows.{set_there}
 use Rattle.lawful.proofs.Forms.{have, one, of_type}
-use Rattle.lawful.proofs.Readless.{types_readless}
 use Rattle.lawful.proofs.Slotted.{Free, no_slot_below}
-use Rattle.lawful.proofs.StmtFrames.{Body, Brought, HasSlot, HasType, Small, TypedVars, agree_is, apart_fine, assigned_fine, frame_in, here_type, over, plain_is, slot_same, slot_typed, takes_it, value_good, world}
+use Rattle.lawful.proofs.StmtFrames.{Body, Brought, HasSlot, Small, TypedVars, agree_is, apart_fine, assigned_fine, frame_in, here_type, over, plain_is, slot_same, slot_typed, takes_it, value_good, world}
 use Rattle.lawful.proofs.StmtRows.{goes_on, one_fine, before_fine}
-use Rattle.lawful.proofs.World.{World, In, Lawful}
+use Rattle.lawful.proofs.World.{In, Lawful}
 
 -- the statements are well typed, and none but the last one of a block returns
 pub record Fine (p : Prog) (f : Frame) (last : Bool) (sts : Sts) : Type 0 where

@@ -12,7 +12,7 @@ use Rattle.rp_lang.specs.Stmts.{St, Sts}
 use Rattle.rp_lang.specs.Programs.{Prog}
 use Rattle.rp_lang.specs.Types.{agree, bool_ty, is_id_type}
 use Rattle.rp_lang.specs.Bounds.{is_small_ex, is_small_fo}
-use Rattle.rp_lang.specs.Typing.{Frame, type_of, is_typed, is_truth, is_question, are_cases}
+use Rattle.rp_lang.specs.Typing.{Frame, type_of, is_typed, are_cases}
 use Rattle.rp_lang.specs.Blocks.{is_condition, is_stmt, plain_type, takes}
 use Rattle.type_rules.specs.declared.kind.Kind.{Kind}
 use Rattle.type_rules.specs.Names.{Name, type_named, text_of}

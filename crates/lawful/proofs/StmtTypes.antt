@@ -1,6 +1,6 @@
 -- What the statements of a lawful procedure become is well typed.
 use Rattle.std.proofs.Common.{◌≡◌, ◌+◌, ◌≤◌, ℕ, Bool, true, false, not, ◌&&◌, ◌||◌, List, [], ◌∷◌, ◌++◌, length, Option, Some, None, refl, ap, subst, sym, ◌∙◌, arith}
-use Rattle.std.specs.Prelude.{is_none, is_some, slice_get}
+use Rattle.std.specs.Prelude.{is_none, slice_get}
 use Rattle.std.proofs.lemmas.Bool.{and_from, and_parts, eqb-true, not-false, not-true, or_left, or_parts, or_right, true≢false}
 use Rattle.std.proofs.lemmas.Cmp.{nat_list_eq_equiv}
 use Rattle.std.proofs.lemmas.List.{length-append}
@@ -11,7 +11,7 @@ use Rattle.rp_grammar.proofs.Formed.{FormedStmt, FormedBlock, FormedStmts, Forme
 use Rattle.rp_grammar.proofs.FormedTexts.{Lexable}
 use Rattle.rp_lang.specs.Exprs.{Ex, Exs, Slot, OpTerm}
 use Rattle.rp_lang.specs.Formulas.{Holds}
-use Rattle.rp_lang.specs.Stmts.{St, Put, If, Match, Atomic, Assert, Operate, New, Return, Sts, no_st, also_st, StArms, no_st_arm, also_st_arm}
+use Rattle.rp_lang.specs.Stmts.{Put, If, Match, Atomic, Assert, Operate, New, Return, Sts, StArms}
 use Rattle.rp_lang.specs.Flow.{sets}
 use Rattle.rp_lang.specs.Types.{fields_of}
 use Rattle.rp_lang.specs.Typing.{are_cases}
@@ -28,31 +28,30 @@ use Rattle.type_rules.specs.Flow as flow
 use Rattle.type_rules.specs.Flow.{Sight, after, with_declared}
 use Rattle.type_rules.specs.StmtSites.{Frame, scope_in, before_stmts, is_last, is_there, var_kind, result_kind, arm_names, stmt_sites, block_sites, stmts_sites, else_sites, arm_sites}
 use Rattle.type_rules.specs.Rules.{Numbered, rule, rules, rule05, rule13, rule15, rule17, rule19, rule20, rule23, is_var, is_taken, is_fixed, is_complete, is_datatype_kind}
-use Rattle.desugaring.specs.Parts.{Pointwise, no_members, more_members, each}
-use Rattle.desugaring.specs.Tables.{Tables, ty_of, arm_number, up_from}
+use Rattle.desugaring.specs.Parts.{Pointwise, no_members, more_members}
+use Rattle.desugaring.specs.Tables.{Tables, ty_of, up_from}
 use Rattle.desugaring.specs.Values.{Value, term, as_formula, reads, fo_reads}
-use Rattle.desugaring.specs.Callees.{Vars, Stand, stand, stand_named, vars_of}
+use Rattle.desugaring.specs.Callees.{Vars, Stand, stand, vars_of}
 use Rattle.desugaring.specs.Meanings.{Means}
-use Rattle.desugaring.specs.Statements.{Place, inside, one_st, append, assigned, block_of_one, slot_for, behind as vars_behind, in_pattern, pattern_slots, slot_kinds}
+use Rattle.desugaring.specs.Statements.{Place, inside, one_st, assigned, block_of_one, slot_for, behind as vars_behind, in_pattern, pattern_slots, slot_kinds}
 use Rattle.desugaring.specs.Runs.{Runs, BlockRuns, AllRun, ElseRuns, ArmsRun}
 use Rattle.desugaring.specs.Limits.{some_in_all, some_in_arms, some_term}
 use Rattle.desugaring.proofs.Fields.{arm_con}
-use Rattle.lawful.specs.Kept.{Kept, AllKept}
-use Rattle.lawful.specs.Slots.{InSlots}
+use Rattle.lawful.specs.Kept.{AllKept}
 use Rattle.lawful.proofs.Alike.{alike_type}
-use Rattle.lawful.proofs.Arms.{IsNumber, flipped}
-use Rattle.lawful.proofs.Basics.{look, same_type, split, when_not}
+use Rattle.lawful.proofs.Arms.{IsNumber}
+use Rattle.lawful.proofs.Basics.{look, split, when_not}
 use Rattle.lawful.proofs.Distinct.{Fresh, fresh_distinct}
 use Rattle.lawful.proofs.Flows.{Here, Laws, With, arm_here, here_later, is_if, row_here, set_there, stmt_flow}
-use Rattle.lawful.proofs.Forms.{head, never, of_type, one}
+use Rattle.lawful.proofs.Forms.{head, one}
 use Rattle.lawful.proofs.Main.{typed, keys_typed, args_typed}
 use Rattle.lawful.proofs.Places.{Lawfully, all_parts, is_one_of}
 use Rattle.lawful.proofs.SlotLaws.{Grows, slots_more}
 use Rattle.lawful.proofs.Slotted.{named_last, slots_alike, slots_push, unnamed}
 use Rattle.lawful.proofs.StmtFrames.{Body, Brought, HasSlot, Small, TypedVars, apart_fine, truth_good, assigned_fine, bound_typed, brought_parts, condition_good, condition_here, frame_in, here_type, in_scope, over, plain_is, reads_same, slot_condition, slot_typed, typed_push, world}
-use Rattle.lawful.proofs.StmtForms.{Fine, Target, aims, assign_typed, fine_one, is_out, new_typed, no_use_there, operate_typed, return_typed, takes_fields, then_there}
+use Rattle.lawful.proofs.StmtForms.{Fine, aims, assign_typed, fine_one, is_out, new_typed, no_use_there, operate_typed, return_typed, takes_fields}
 use Rattle.lawful.proofs.StmtRows.{after_all, after_with, before_fine, goes_on, one_fine, row_fine, some_append}
-use Rattle.lawful.proofs.World.{In, Lawful}
+use Rattle.lawful.proofs.World.{In}
 
 -- the type of what the procedure returns
 abbrev pub IsResult : Tables → Option Kind → Option Ty → Type 0
