@@ -11,12 +11,11 @@ ghost use Rattle.crdt_defs.specs.Meaning.{among, at_key, one_stays, contains_add
 ghost use Rattle.crdt_lib.specs.means.Picked.{listed};
 ghost use Rattle.crdt_defs.specs.Queries.{answer_at, at_call};
 
-use crdt_defs::{Answer, Found, Question, Winner};
-use crdt_defs::CallRec;
 use crate::doing::keys_in;
 use crate::history::{History, MOST};
 use crate::picked::{any_stays, is_any, pick, pick_kind};
 use crate::row::{any, is_here, narrow};
+use crdt_defs::{Answer, CallRec, Found, Question, Winner};
 use rp_lang::{OpDecl, OpKind};
 use rp_value::Value;
 

@@ -4,8 +4,8 @@ ghost use Rattle.std.specs.List.Sorted.{IsStrictlyIncreasing};
 ghost use Rattle.crdt_defs.specs.Calls.{call_view, calls_view};
 ghost use Rattle.crdt_defs.specs.Histories.{IsHistory, MayFollow, before};
 
-use crdt_defs::CallRec;
 use crate::integers::args_fit;
+use crdt_defs::CallRec;
 use rp_value::{List, Memory};
 use std::alloc::Global;
 use std::marker::Model;

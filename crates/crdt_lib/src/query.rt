@@ -11,10 +11,10 @@ ghost use Rattle.crdt_defs.specs.Meaning.{among};
 ghost use Rattle.crdt_defs.specs.Queries as spec;
 
 use crate::answer::answer;
-use crdt_defs::{Answer, Found, Question, Winner};
 use crate::history::{History, MOST};
 use crate::row::{enter_field, mark, narrow};
 use crate::view::View;
+use crdt_defs::{Answer, Found, Question, Winner};
 use rp_lang::{Crdt, OpDecl, PathStep, Program, QueryDecl, QueryKind, Root, field_in, root_crdt};
 use rp_value::Value;
 

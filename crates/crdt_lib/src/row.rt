@@ -8,10 +8,10 @@ ghost use Rattle.crdt_defs.specs.Snapshots.{bit};
 ghost use Rattle.crdt_defs.specs.Doing as spec;
 ghost use Rattle.crdt_defs.specs.Meaning.{among, in_field, at_key, loses};
 
-use crdt_defs::Winner;
 use crate::doing::{deletes, does, goes_to_field, goes_to_key, is_of, on_root};
 use crate::history::History;
 use crate::view::View;
+use crdt_defs::Winner;
 use rp_lang::{OpDecl, OpKind};
 use rp_value::Value;
 
