@@ -102,7 +102,7 @@ none_same : (x : Name) (xs : List Name) → AllByRecursion (λ y. flipped x y �
 none_same x [] all = refl
 none_same x (y ∷ ys) all = either_false (same_name x y) _ (nat_list_eq_equiv.symm x y ∙ all.0) (none_same x ys all.1)
 
-names_distinct : (xs : List Name) → IsDistinct flipped xs → are_distinct xs ≡ true
+pub names_distinct : (xs : List Name) → IsDistinct flipped xs → are_distinct xs ≡ true
 names_distinct [] d = refl
 names_distinct (x ∷ xs) d =
     and_from _ _ (ap not (none_same x xs (IsDistinct-head flipped x xs d))) (names_distinct xs (IsDistinct-tail flipped x xs d))

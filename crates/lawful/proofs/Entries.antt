@@ -22,7 +22,7 @@ use Rattle.lawful.proofs.Places.{Lawfully, all_both, all_lawful, names_fresh, na
 
 -- # All names differ
 
-distinct_append : (h r : List Name) → IsDistinct flipped h → IsDistinct flipped r → AllByRecursion (λ y. list_any (same_name y) h ≡ false) r
+pub distinct_append : (h r : List Name) → IsDistinct flipped h → IsDistinct flipped r → AllByRecursion (λ y. list_any (same_name y) h ≡ false) r
     → IsDistinct flipped (h ++ r)
 distinct_append [] r here rest apart = rest
 distinct_append (x ∷ xs) r here rest apart =
@@ -30,7 +30,7 @@ distinct_append (x ∷ xs) r here rest apart =
     IsDistinct-cons flipped x (xs ++ r) (all_both (λ y. flipped x y ≡ false) xs r (IsDistinct-head flipped x xs here) p.0)
     (distinct_append xs r (IsDistinct-tail flipped x xs here) rest p.1)
 
-first_parts : (h before : List Name) (r : List Name) → AllByRecursion (λ y. list_any (same_name y) (h ++ before) ≡ false) r
+pub first_parts : (h before : List Name) (r : List Name) → AllByRecursion (λ y. list_any (same_name y) (h ++ before) ≡ false) r
     → AllByRecursion (λ y. list_any (same_name y) h ≡ false) r × AllByRecursion (λ y. list_any (same_name y) before ≡ false) r
 first_parts h before [] all = (tt, tt)
 first_parts h before (y ∷ ys) all =

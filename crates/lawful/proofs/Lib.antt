@@ -59,6 +59,12 @@ mod Closed
 mod ClosedStmts
 mod FirstCons
 mod Numbering
+mod NameLists
+mod TypeNames
+mod NamedValues
+mod ValueNames
+mod InvNames
+mod WellFormed
 mod Crdts
 mod ProcHeads
 mod Members

@@ -45,7 +45,7 @@ by_entry tree p is formed vs x steps c (Some entry) found e = by_query tree p is
       (subst (λ o. of_access (tables_of tree) vs x steps (of_entry (names_of tree) x steps o) ≡ Some c) (sym found) e)
       (λ other h. subst (λ z. is_query z.what ≡ false) (one (sym found ∙ h)) query))
 
-begins : (tree : List DeclTree) → BoolFirst (tables_of tree)
+pub begins : (tree : List DeclTree) → BoolFirst (tables_of tree)
 begins tree = (kinds_from (names_of tree) 0 0 tree, refl)
 
 pub tied : (bytes : List ℕ) (tree : List DeclTree) → IsText bytes tree → (p : Prog) → IsProgramOf tree p → Tied (tables_of tree) p (may_speak tree)

@@ -1,6 +1,6 @@
 //! Laws of the definitions. The functions do nothing; what they ensure is proved.
 
-ghost use Rattle.std.specs.Prelude.{◌≡◌, ℕ, Bool, true, false, ◌&&◌, nat_eq, nat_le, nat_lt, List, [], length, map, Option, Some, is_some, slice_get};
+ghost use Rattle.std.specs.Prelude.{◌≡◌, ℕ, Bool, true, false, nat_eq, nat_lt, List, [], length, map, Option, Some, is_some, slice_get};
 ghost use Rattle.std.specs.List.{AllByRecursion, IsDistinct, list_all};
 ghost use Rattle.rp_span.specs.declared.Span.{Span};
 ghost use Rattle.rp_value.specs.declared.tables.Ty.{Ty};
@@ -8,9 +8,8 @@ ghost use Rattle.rp_grammar.specs.Trees.{Ident, PatternTree, StepTrees, ExprTree
 ghost use Rattle.rp_grammar.specs.Texts.{IsText};
 ghost use Rattle.rp_lang.specs.Exprs.{Ex};
 ghost use Rattle.rp_lang.specs.Formulas.{Arms};
-ghost use Rattle.rp_lang.specs.Programs.{Inv, Proc, Prog};
-ghost use Rattle.rp_lang.specs.Sizes.{sts_count};
-ghost use Rattle.rp_lang.specs.WellFormed.{are_invs, are_ops, are_procs, are_queries, are_roots, begins, has_body, returns_a_value};
+ghost use Rattle.rp_lang.specs.Programs.{Inv, Prog};
+ghost use Rattle.rp_lang.specs.WellFormed.{is_well_formed, returns_a_value};
 ghost use Rattle.rp_lang.specs.Types.{are_numbered, are_ordinary_fields, bool_ty, datatype_of, fields_of, has_bool};
 ghost use Rattle.rp_lang.specs.Typing.{Frame, are_cases, arm_cons, in_invariant, is_range, is_typed, op_args};
 ghost use Rattle.type_rules.specs.declared.kind.Kind.{Kind as TheKind};
@@ -127,39 +126,16 @@ pub fn invariants_are_typed()
         → list_all (λ (inv : Inv). is_typed p in_invariant [] inv.body) p.invs ≡ true }
 {}
 
-/// The invariants of a lawful text whose program passes no limit are well formed.
-pub fn invariants_are_well_formed()
-    ensures { (bytes : List ℕ) (tree : List DeclTree) → IsText bytes tree → (p : Prog) → HasProgram tree p
-        → are_invs p ≡ true }
-{}
-
-/// The statements of a lawful text's procedures are well typed in its program, where it passes no limit.
-pub fn bodies_are_typed()
-    ensures { (bytes : List ℕ) (tree : List DeclTree) → IsText bytes tree → (p : Prog) → HasProgram tree p
-        → list_all (has_body p) p.procs ≡ true }
-{}
-
-/// The procedures of a lawful text whose program passes no limit are well formed.
-pub fn procedures_are_well_formed()
-    ensures { (bytes : List ℕ) (tree : List DeclTree) → IsText bytes tree → (p : Prog) → HasProgram tree p
-        → are_procs p ≡ true }
-{}
-
-/// The operations of a lawful text's roots, in its program that passes no limit, are well formed.
-pub fn operations_are_well_formed()
-    ensures { (tree : List DeclTree) (p : Prog) → HasProgram tree p → are_ops p.roots p.ops ≡ true }
-{}
-
-/// The queries of a lawful text's roots, in its program that passes no limit, are well formed.
-pub fn queries_are_well_formed()
-    ensures { (bytes : List ℕ) (tree : List DeclTree) → IsText bytes tree → (p : Prog) → HasProgram tree p
-        → are_queries p ≡ true }
-{}
-
 /// The constructors of each datatype of a lawful text's program are the next ones, in order, one or more.
 pub fn constructors_are_numbered()
     ensures { (bytes : List ℕ) (tree : List DeclTree) → IsText bytes tree → (p : Prog) → IsProgramOf tree p
         → are_numbered p.cons 0 0 p.types.datatypes ≡ true }
+{}
+
+/// The program of a lawful text, where it passes no limit, is well formed.
+pub fn programs_are_well_formed()
+    ensures { (bytes : List ℕ) (tree : List DeclTree) → IsText bytes tree → (p : Prog) → HasProgram tree p
+        → is_well_formed p ≡ true }
 {}
 
 /// The fields of the constructors of a lawful text's program are of types of data.
@@ -173,18 +149,4 @@ pub fn places_are_kept()
     ensures { (bytes : List ℕ) (tree : List DeclTree) → IsText bytes tree → IsLawful tree
         → AllByRecursion
         (λ (d : ProcDecl). AllKept (names_of tree) (may_speak tree) (proc_sites (names_of tree) d.decl d.tree)) (procs_from 0 tree) }
-{}
-
-/// The roots of a lawful text whose program passes no limit are well formed.
-pub fn roots_are_well_formed()
-    ensures { (bytes : List ℕ) (tree : List DeclTree) → IsText bytes tree → (p : Prog) → HasProgram tree p
-        → are_roots p.types p.roots ≡ true }
-{}
-
-/// In a lawful text's program that passes no limit, procedures are few and short, their first slots
-/// are their parameters, and those with a result return on every path.
-pub fn procedures_begin_well()
-    ensures { (tree : List DeclTree) (p : Prog) → HasProgram tree p
-        → (nat_le (length p.procs) 64
-        && list_all (λ (q : Proc). begins q.params q.slots && nat_le (sts_count q.body) 200 && returns_a_value q) p.procs) ≡ true }
 {}
