@@ -1,0 +1,21 @@
+//! What the type rules know of the parts of a text: where phrases begin, where paths lead, what
+//! accesses are, the types of expressions, which are plain terms, and the constructors of types.
+#![tactic(auto)]
+
+mod access;
+mod cases;
+mod members;
+mod paths;
+mod plain;
+mod queries;
+mod starts;
+mod typing;
+
+pub use access::{Access, access_of, arg_kind, args_fit};
+pub use cases::{Case, Cases, case_field, cases_of, find_case, is_case, is_complete};
+pub use members::{Does, Member, is_operation};
+pub use paths::{Way, key_kind, stepped, way_from};
+pub use plain::is_plain;
+pub use queries::{names_of, param_var};
+pub use starts::{brace_of, start, type_start, word_at};
+pub use typing::{asked_inside, type_of};
