@@ -4,10 +4,12 @@
 
 pub mod laws;
 pub mod operator;
+mod spelling;
 pub mod terminal;
 
 pub use operator::{CallWord, CompareOp};
 use rp_span::Span;
+pub use spelling::{symbol_text, word_text};
 pub use terminal::{Symbol, Word};
 
 /// What a token is.

@@ -1,6 +1,6 @@
-ghost use Rattle.std.specs.Prelude.{◌≡◌, ◌≤◌, ◌↔◌, min, IsTrue};
-ghost use Rattle.rp_lang.specs.Sizes.{fo_depth, fos_depth, arms_depth, fo_nodes, fos_nodes, arms_nodes};
-ghost use Rattle.rp_lang.specs.Views.{formula_view, formulas_view, arms_view};
+ghost use Rattle.std.specs.Prelude.{◌≡◌, ◌+◌, ◌≤◌, ◌↔◌, max, min, IsTrue};
+ghost use Rattle.rp_lang.specs.Sizes.{ex_depth, ex_nodes, fo_depth, fos_depth, arms_depth, fo_nodes, fos_nodes, arms_nodes};
+ghost use Rattle.rp_lang.specs.Views.{expr_view, formula_view, formulas_view, arms_view};
 
 use crate::expr::Expr;
 use rp_value::{Boxed, List, Ty};
@@ -56,11 +56,17 @@ impl Formula {
             | Formula::Less(a, b)
             | Formula::AtMost(a, b)
             | Formula::Before(a, b)
-            | Formula::Same(a, b) => a.is_within(less) && b.is_within(less),
+            | Formula::Same(a, b) => are_both_within(a, b, less),
             Formula::Match(on, arms) => on.is_within(less)
                 && arms_are_within(arms.as_slice(), less),
         }
     }
+}
+
+fn are_both_within(a: &Expr, b: &Expr, limit: u32) -> bool
+    ensures { IsTrue result ↔ (max (ex_depth (expr_view a.now)) (ex_depth (expr_view b.now)) ≤ limit) }
+{
+    a.is_within(limit) && b.is_within(limit)
 }
 
 #[cycle(formula_depth)]
@@ -114,13 +120,19 @@ impl Formula {
             | Formula::Less(a, b)
             | Formula::AtMost(a, b)
             | Formula::Before(a, b)
-            | Formula::Same(a, b) => a.nodes().saturating_add(b.nodes()).saturating_add(1),
+            | Formula::Same(a, b) => nodes_of_both(a, b).saturating_add(1),
             Formula::Match(on, arms) => on
                 .nodes()
                 .saturating_add(arms_nodes(arms.as_slice()))
                 .saturating_add(1),
         }
     }
+}
+
+fn nodes_of_both(a: &Expr, b: &Expr) -> u64
+    ensures { result ≡ min (ex_nodes (expr_view a.now) + ex_nodes (expr_view b.now)) 18446744073709551615 }
+{
+    a.nodes().saturating_add(b.nodes())
 }
 
 #[cycle(formula_nodes)]

@@ -9,7 +9,9 @@ use crate::op::{OpDecl, OpKind};
 use crate::proc::ProcDecl;
 use crate::query::QueryDecl;
 use crate::root::Root;
-use rp_value::{AtomType, ConDecl, ConTable, DataDecl, List, Memory, TypeTable, copy_bytes};
+use rp_value::{
+    AtomType, ConDecl, ConTable, DataDecl, List, Memory, TypeTable, copy_bytes, copy_list,
+};
 use std::alloc::Global;
 
 /// A well-formed program: all numbers in it are in range, it is well typed, and it is within the limits.
@@ -41,9 +43,9 @@ impl Program {
         if !are_over_truth_values(procs.as_slice()) {
             return Ok(None);
         }
+        let ops = only_tx(alloc)?;
         let types = bool_types(alloc)?;
         let cons = bool_cons(alloc)?;
-        let ops = only_tx(alloc)?;
         Ok(Some(Program {
             types,
             cons,
@@ -72,13 +74,10 @@ pub fn only_tx(alloc: Global) -> Result<List<OpDecl>, Memory>
 pub fn bool_types(alloc: Global) -> Result<TypeTable, Memory>
     ensures { IfOk result (λ types. types ≡ spec.bool_types) }
 {
-    let mut cons = List::new(alloc);
-    cons.push(0)?;
-    cons.push(1)?;
     let mut datatypes = List::new(alloc);
     datatypes.push(DataDecl {
         name: copy_bytes(alloc, b"Bool")?,
-        cons,
+        cons: copy_list(alloc, &[0, 1])?,
     })?;
     Ok(TypeTable {
         atoms: List::new(alloc),

@@ -1,5 +1,5 @@
 -- Each word and each symbol is found by its text.
-use Rattle.std.proofs.Common.{◌≡◌, ℕ, true, false, List, refl, sym, ap, ◌∙◌, Option, Some}
+use Rattle.std.proofs.Common.{◌≡◌, ℕ, true, false, List, length, refl, sym, ap, ◌∙◌, Option, Some}
 use Rattle.std.specs.Prelude.{IsSome, IsTrue, ◌↔◌}
 use Rattle.std.specs.Option.{is_some}
 use Rattle.std.proofs.lemmas.Bool.{false_from_ne_true, both_ways}
@@ -11,7 +11,13 @@ use Rattle.rp_grammar.specs.declared.terminal.Symbol.{Symbol}
 use Rattle.rp_grammar.specs.declared.TokenKind.TheVariants as kind
 use Rattle.rp_grammar.proofs.Computed.{found}
 use Rattle.rp_grammar.proofs.Tables.{word_of-spelling, symbol_of-mark}
-use Rattle.rp_lexer.proofs.Named.{is_some-named}
+use Rattle.rp_lexer.specs.means.Named.{named, sized}
+use Rattle.rp_lexer.proofs.Named.{is_some-named, named_sized}
+
+-- what is found among the items of its own length is found among all
+pub found_sized : {X : Type 0} (text : X → List ℕ) (all own : List X) (bs : List ℕ) (result : Option X) → result ≡ named text own bs → own ≡ sized text (length bs) all
+    → result ≡ named text all bs
+found_sized text all own bs result h same = h ∙ ap (λ xs. named text xs bs) same ∙ named_sized text (length bs) all bs refl
 
 pub word_spelled : (bs : List ℕ) (result : Option Word) → result ≡ word_of bs → (w : Word) → (result ≡ Some w) ↔ (bs ≡ spelling w)
 word_spelled bs result h w = (λ e. found spelling words bs w (sym h ∙ e), λ e. h ∙ ap word_of e ∙ word_of-spelling w)

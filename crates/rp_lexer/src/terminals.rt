@@ -1,162 +1,74 @@
 //! The word and the symbol that a text spells.
 
-ghost use Rattle.std.specs.Prelude.{◌≡◌, ◌↔◌, IsSome, IsTrue, take, drop};
+ghost use Rattle.std.specs.Prelude.{◌≡◌, ◌↔◌, IsSome, IsTrue};
 ghost use Rattle.rp_grammar.specs.Bytes.{is_one_of, reserved, symbols};
 ghost use Rattle.rp_grammar.specs.Spelling.{spelling, mark, words, marks, word_of, symbol_of};
 ghost use Rattle.rp_lexer.specs.means.Named.{named, sized};
 
-use rp_grammar::{Symbol, Word};
+use rp_grammar::{Symbol, Word, symbol_text, word_text};
 
-fn word_of_2(text: &[u8]) -> Option<Word>
-    ensures { result ≡ named spelling (sized spelling 2 words) text.now }
+// The words of so many bytes, in the order of the table of all words.
+fn words_of_length(length: usize) -> &'static [Word]
+    ensures { result.now ≡ sized spelling length words }
 {
-    match text {
-        b"if" => Some(Word::If),
-        b"op" => Some(Word::Op),
-        b"tx" => Some(Word::Tx),
-        _ => None,
+    match length {
+        2 => &[Word::If, Word::Op, Word::Tx],
+        3 => &[Word::Var, Word::New, Word::Int, Word::Reg],
+        4 => &[
+            Word::Type,
+            Word::Crdt,
+            Word::Proc,
+            Word::Else,
+            Word::True,
+            Word::None,
+            Word::Some,
+            Word::Call,
+            Word::Same,
+            Word::Info,
+            Word::Bool,
+        ],
+        5 => &[
+            Word::Query,
+            Word::Match,
+            Word::False,
+            Word::Maybe,
+            Word::SetAw,
+            Word::SetRw,
+            Word::MvReg,
+            Word::MapUw,
+            Word::MapDw,
+            Word::Abort,
+        ],
+        6 => &[
+            Word::IdType,
+            Word::Atomic,
+            Word::Assert,
+            Word::Return,
+            Word::Forall,
+            Word::Exists,
+            Word::Before,
+            Word::Origin,
+            Word::Result,
+            Word::String,
+        ],
+        7 => &[Word::Visible, Word::Counter],
+        8 => &[Word::Datatype, Word::Returned, Word::Requires],
+        9 => &[Word::Invariant],
+        10 => &[Word::Invocation, Word::Unreturned],
+        _ => &[],
     }
 }
 
-fn word_of_3(text: &[u8]) -> Option<Word>
-    ensures { result ≡ named spelling (sized spelling 3 words) text.now }
+// The first of these words that the text spells.
+fn find_word(items: &[Word], text: &[u8]) -> Option<Word>
+    ensures { result ≡ named spelling items.now text.now }
 {
-    match text {
-        b"var" => Some(Word::Var),
-        b"new" => Some(Word::New),
-        b"Int" => Some(Word::Int),
-        b"Reg" => Some(Word::Reg),
-        _ => None,
+    for item in items {
+        if word_text(*item) == text {
+            return Some(*item);
+        }
     }
-}
-
-fn word_of_4(text: &[u8]) -> Option<Word>
-    ensures { result ≡ named spelling (sized spelling 4 words) text.now }
-{
-    match text {
-        b"type" => Some(Word::Type),
-        b"crdt" => Some(Word::Crdt),
-        b"proc" => Some(Word::Proc),
-        b"else" => Some(Word::Else),
-        b"true" => Some(Word::True),
-        b"none" => Some(Word::None),
-        b"some" => Some(Word::Some),
-        b"call" => Some(Word::Call),
-        b"same" => Some(Word::Same),
-        b"info" => Some(Word::Info),
-        b"Bool" => Some(Word::Bool),
-        _ => None,
-    }
-}
-
-fn word_of_5(text: &[u8]) -> Option<Word>
-    ensures { result ≡ named spelling (sized spelling 5 words) text.now }
-{
-    match text {
-        b"query" => Some(Word::Query),
-        b"match" => Some(Word::Match),
-        b"false" => Some(Word::False),
-        b"Maybe" => Some(Word::Maybe),
-        b"SetAw" => Some(Word::SetAw),
-        b"SetRw" => Some(Word::SetRw),
-        b"MvReg" => Some(Word::MvReg),
-        b"MapUw" => Some(Word::MapUw),
-        b"MapDw" => Some(Word::MapDw),
-        b"abort" => Some(Word::Abort),
-        _ => None,
-    }
-}
-
-fn word_of_6_first(text: &[u8]) -> Option<Word>
-    ensures { result ≡ named spelling (take 5 (sized spelling 6 words)) text.now }
-{
-    match text {
-        b"idtype" => Some(Word::IdType),
-        b"atomic" => Some(Word::Atomic),
-        b"assert" => Some(Word::Assert),
-        b"return" => Some(Word::Return),
-        b"forall" => Some(Word::Forall),
-        _ => None,
-    }
-}
-
-fn word_of_6_second(text: &[u8]) -> Option<Word>
-    ensures { result ≡ named spelling (drop 5 (sized spelling 6 words)) text.now }
-{
-    match text {
-        b"exists" => Some(Word::Exists),
-        b"before" => Some(Word::Before),
-        b"origin" => Some(Word::Origin),
-        b"result" => Some(Word::Result),
-        b"String" => Some(Word::String),
-        _ => None,
-    }
-}
-
-fn word_of_6(text: &[u8]) -> Option<Word>
-    ensures { result ≡ named spelling (sized spelling 6 words) text.now }
-{
-    match word_of_6_first(text) {
-        Some(w) => Some(w),
-        None => word_of_6_second(text),
-    }
-}
-
-fn word_of_7(text: &[u8]) -> Option<Word>
-    ensures { result ≡ named spelling (sized spelling 7 words) text.now }
-{
-    match text {
-        b"visible" => Some(Word::Visible),
-        b"Counter" => Some(Word::Counter),
-        _ => None,
-    }
-}
-
-fn word_of_8(text: &[u8]) -> Option<Word>
-    ensures { result ≡ named spelling (sized spelling 8 words) text.now }
-{
-    match text {
-        b"datatype" => Some(Word::Datatype),
-        b"returned" => Some(Word::Returned),
-        b"requires" => Some(Word::Requires),
-        _ => None,
-    }
-}
-
-fn word_of_9(text: &[u8]) -> Option<Word>
-    ensures { result ≡ named spelling (sized spelling 9 words) text.now }
-{
-    match text {
-        b"invariant" => Some(Word::Invariant),
-        _ => None,
-    }
-}
-
-fn word_of_10(text: &[u8]) -> Option<Word>
-    ensures { result ≡ named spelling (sized spelling 10 words) text.now }
-{
-    match text {
-        b"invocation" => Some(Word::Invocation),
-        b"unreturned" => Some(Word::Unreturned),
-        _ => None,
-    }
-}
-
-fn word_by_length(text: &[u8]) -> Option<Word>
-    ensures { result ≡ word_of text.now }
-{
-    match text.len() {
-        2 => word_of_2(text),
-        3 => word_of_3(text),
-        4 => word_of_4(text),
-        5 => word_of_5(text),
-        6 => word_of_6(text),
-        7 => word_of_7(text),
-        8 => word_of_8(text),
-        9 => word_of_9(text),
-        10 => word_of_10(text),
-        _ => None,
-    }
+    None
 }
 
 /// The reserved word that the text spells, if it spells one.
@@ -165,68 +77,58 @@ pub fn word_of(text: &[u8]) -> Option<Word>
     ensures spelled { (w : Word) → (result ≡ Some w) ↔ (text.now ≡ spelling w) }
     ensures some { IsSome result ↔ IsTrue (is_one_of reserved text.now) }
 {
-    word_by_length(text)
+    find_word(words_of_length(text.len()), text)
 }
 
-fn symbol_of_1(text: &[u8]) -> Option<Symbol>
-    ensures { result ≡ named mark (sized mark 1 marks) text.now }
+// The symbols of so many bytes, in the order of the table of all symbols.
+fn symbols_of_length(length: usize) -> &'static [Symbol]
+    ensures { result.now ≡ sized mark length marks }
 {
-    match text {
-        b"{" => Some(Symbol::OpenBrace),
-        b"}" => Some(Symbol::CloseBrace),
-        b"(" => Some(Symbol::OpenParen),
-        b")" => Some(Symbol::CloseParen),
-        b"[" => Some(Symbol::OpenBracket),
-        b"]" => Some(Symbol::CloseBracket),
-        b"," => Some(Symbol::Comma),
-        b";" => Some(Symbol::Semicolon),
-        b":" => Some(Symbol::Colon),
-        b"." => Some(Symbol::Dot),
-        b"=" => Some(Symbol::Assign),
-        b"<" => Some(Symbol::Less),
-        b">" => Some(Symbol::Greater),
-        b"!" => Some(Symbol::Not),
-        b"+" => Some(Symbol::Plus),
-        b"-" => Some(Symbol::Minus),
-        b"|" => Some(Symbol::Bar),
-        _ => None,
+    match length {
+        1 => &[
+            Symbol::OpenBrace,
+            Symbol::CloseBrace,
+            Symbol::OpenParen,
+            Symbol::CloseParen,
+            Symbol::OpenBracket,
+            Symbol::CloseBracket,
+            Symbol::Comma,
+            Symbol::Semicolon,
+            Symbol::Colon,
+            Symbol::Dot,
+            Symbol::Assign,
+            Symbol::Less,
+            Symbol::Greater,
+            Symbol::Not,
+            Symbol::Plus,
+            Symbol::Minus,
+            Symbol::Bar,
+        ],
+        2 => &[
+            Symbol::DoubleColon,
+            Symbol::Equal,
+            Symbol::NotEqual,
+            Symbol::AtMost,
+            Symbol::AtLeast,
+            Symbol::Arrow,
+            Symbol::And,
+            Symbol::Or,
+        ],
+        3 => &[Symbol::Implies],
+        _ => &[],
     }
 }
 
-fn symbol_of_2(text: &[u8]) -> Option<Symbol>
-    ensures { result ≡ named mark (sized mark 2 marks) text.now }
+// The first of these symbols that the text spells.
+fn find_symbol(items: &[Symbol], text: &[u8]) -> Option<Symbol>
+    ensures { result ≡ named mark items.now text.now }
 {
-    match text {
-        b"::" => Some(Symbol::DoubleColon),
-        b"==" => Some(Symbol::Equal),
-        b"!=" => Some(Symbol::NotEqual),
-        b"<=" => Some(Symbol::AtMost),
-        b">=" => Some(Symbol::AtLeast),
-        b"=>" => Some(Symbol::Arrow),
-        b"&&" => Some(Symbol::And),
-        b"||" => Some(Symbol::Or),
-        _ => None,
+    for item in items {
+        if symbol_text(*item) == text {
+            return Some(*item);
+        }
     }
-}
-
-fn symbol_of_3(text: &[u8]) -> Option<Symbol>
-    ensures { result ≡ named mark (sized mark 3 marks) text.now }
-{
-    match text {
-        b"==>" => Some(Symbol::Implies),
-        _ => None,
-    }
-}
-
-fn symbol_by_length(text: &[u8]) -> Option<Symbol>
-    ensures { result ≡ symbol_of text.now }
-{
-    match text.len() {
-        1 => symbol_of_1(text),
-        2 => symbol_of_2(text),
-        3 => symbol_of_3(text),
-        _ => None,
-    }
+    None
 }
 
 /// The symbol that the text spells, if it spells one.
@@ -235,5 +137,5 @@ pub fn symbol_of(text: &[u8]) -> Option<Symbol>
     ensures spelled { (m : Symbol) → (result ≡ Some m) ↔ (text.now ≡ mark m) }
     ensures some { IsSome result ↔ IsTrue (is_one_of symbols text.now) }
 {
-    symbol_by_length(text)
+    find_symbol(symbols_of_length(text.len()), text)
 }

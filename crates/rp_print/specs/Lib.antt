@@ -1,4 +1,3 @@
 pub mod Printed
 pub mod Alike
-pub mod means
 pub mod rows

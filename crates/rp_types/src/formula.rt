@@ -5,7 +5,7 @@ ghost use Rattle.rp_ast.specs.View as tree;
 ghost use Rattle.rp_lang.specs.Views.{formula_view, formulas_view};
 ghost use Rattle.rp_types.specs.means.Found as spec;
 
-use crate::nodes::{conjunction, disjunction, implication, negation, push, truth};
+use crate::nodes::{boxed, push, truth};
 use crate::scope::Scope;
 use crate::stop::Stop;
 use rp_ast::{ExprForm, ExprNode};
@@ -27,11 +27,20 @@ impl<'a> Scope<'a> {
             ExprForm::Implies(left, right) => {
                 let left = self.formula(left.get())?;
                 let right = self.formula(right.get())?;
-                Ok(implication(self.alloc, left, right)?)
+                boxed(self.alloc, Formula::Implies(left, right))
             }
-            ExprForm::Or(parts) => Ok(disjunction(self.alloc, self.formulas(parts.as_slice())?)?),
-            ExprForm::And(parts) => Ok(conjunction(self.alloc, self.formulas(parts.as_slice())?)?),
-            ExprForm::Not(inside) => Ok(negation(self.alloc, self.formula(inside.get())?)?),
+            ExprForm::Or(parts) => {
+                let parts = self.formulas(parts.as_slice())?;
+                boxed(self.alloc, Formula::Or(parts))
+            }
+            ExprForm::And(parts) => {
+                let parts = self.formulas(parts.as_slice())?;
+                boxed(self.alloc, Formula::And(parts))
+            }
+            ExprForm::Not(inside) => {
+                let inside = self.formula(inside.get())?;
+                boxed(self.alloc, Formula::Not(inside))
+            }
             ExprForm::Truth(value) => Ok(truth(self.alloc, *value)?),
             ExprForm::Access(access) => self.variable(access),
             ExprForm::Forall(_, _)

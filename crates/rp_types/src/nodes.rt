@@ -2,13 +2,14 @@
 //!
 //! Each is handed up in a box: where a bare one is held, the ways out are written for each of its variants.
 
-ghost use Rattle.std.specs.Prelude.{◌≡◌, ◌∷◌, [], ◌++◌, IfOk, OnOk};
+ghost use Rattle.std.specs.Prelude.{◌≡◌, ◌∷◌, [], ◌++◌, Option, Some, None, IfOk, OnOk, IsErrOf};
 ghost use Rattle.rp_lang.specs.Exprs.{Slot};
 ghost use Rattle.rp_lang.specs.Formulas as fo;
 ghost use Rattle.rp_lang.specs.Stmts as st;
-ghost use Rattle.rp_lang.specs.Views.{formula_view, formulas_view, stmt_view, stmts_view};
+ghost use Rattle.rp_lang.specs.Views.{formula_view, stmt_view, stmts_view};
 ghost use Rattle.rp_types.specs.Resolution.{truth_of};
 
+use crate::stop::Stop;
 use rp_lang::{Expr, Formula, Stmt, StmtKind};
 use rp_span::Span;
 use rp_value::{Boxed, List, Memory};
@@ -34,44 +35,26 @@ pub(crate) fn variable(alloc: Global, slot: u32) -> Result<Boxed<Formula>, Memor
     Boxed::new(alloc, Formula::Holds(Expr::Slot(slot)))
 }
 
-pub(crate) fn negation(alloc: Global, inside: Boxed<Formula>) -> Result<Boxed<Formula>, Memory>
-    ensures { IfOk result (λ f. formula_view f ≡ fo.Not (formula_view inside)) }
+/// The formula in a box, for what has this formula.
+pub(crate) fn boxed(alloc: Global, formula: Formula) -> Result<Boxed<Formula>, Stop>
+    ensures found { (o : Option fo.Fo) → o ≡ Some (formula_view formula)
+        → IfOk result (λ f. o ≡ Some (formula_view f)) }
+    ensures none { (o : Option fo.Fo) → IsErrOf result Stop.NotFirst → o ≡ None }
 {
-    Boxed::new(alloc, Formula::Not(inside))
-}
-
-pub(crate) fn implication(
-    alloc: Global,
-    left: Boxed<Formula>,
-    right: Boxed<Formula>,
-) -> Result<Boxed<Formula>, Memory>
-    ensures { IfOk result (λ f. formula_view f
-        ≡ fo.Implies (formula_view left) (formula_view right)) }
-{
-    Boxed::new(alloc, Formula::Implies(left, right))
-}
-
-pub(crate) fn conjunction(alloc: Global, parts: List<Formula>) -> Result<Boxed<Formula>, Memory>
-    ensures { IfOk result (λ f. formula_view f ≡ fo.And (formulas_view parts)) }
-{
-    Boxed::new(alloc, Formula::And(parts))
-}
-
-pub(crate) fn disjunction(alloc: Global, parts: List<Formula>) -> Result<Boxed<Formula>, Memory>
-    ensures { IfOk result (λ f. formula_view f ≡ fo.Or (formulas_view parts)) }
-{
-    Boxed::new(alloc, Formula::Or(parts))
+    Ok(Boxed::new(alloc, formula)?)
 }
 
 pub(crate) fn assertion(
     alloc: Global,
     at: Span,
     condition: Boxed<Formula>,
-) -> Result<Boxed<Stmt>, Memory>
-    ensures { IfOk result (λ s. stmt_view s ≡ st.Assert at (formula_view condition)) }
+) -> Result<Boxed<Stmt>, Stop>
+    ensures found { (o : Option st.St) → o ≡ Some (st.Assert at (formula_view condition))
+        → IfOk result (λ s. o ≡ Some (stmt_view s)) }
+    ensures none { (o : Option st.St) → IsErrOf result Stop.NotFirst → o ≡ None }
 {
     let what = StmtKind::Assert(condition.into_inner());
-    Boxed::new(alloc, Stmt { at, what })
+    Ok(Boxed::new(alloc, Stmt { at, what })?)
 }
 
 pub(crate) fn branching(
@@ -80,10 +63,12 @@ pub(crate) fn branching(
     condition: Boxed<Formula>,
     body: List<Stmt>,
     otherwise: List<Stmt>,
-) -> Result<Boxed<Stmt>, Memory>
-    ensures { IfOk result (λ s. stmt_view s
-        ≡ st.If at (formula_view condition) (stmts_view body) (stmts_view otherwise)) }
+) -> Result<Boxed<Stmt>, Stop>
+    ensures found { (o : Option st.St)
+        → o ≡ Some (st.If at (formula_view condition) (stmts_view body) (stmts_view otherwise))
+        → IfOk result (λ s. o ≡ Some (stmt_view s)) }
+    ensures none { (o : Option st.St) → IsErrOf result Stop.NotFirst → o ≡ None }
 {
     let what = StmtKind::If(condition.into_inner(), body, otherwise);
-    Boxed::new(alloc, Stmt { at, what })
+    Ok(Boxed::new(alloc, Stmt { at, what })?)
 }

@@ -25,13 +25,13 @@ impl<'a> Scope<'a> {
         match &stmt.what {
             StmtForm::Assert(condition) => {
                 let condition = self.formula(condition)?;
-                Ok(assertion(self.alloc, stmt.span, condition)?)
+                assertion(self.alloc, stmt.span, condition)
             }
             StmtForm::If(condition, body, otherwise) => {
                 let condition = self.formula(condition)?;
                 let body = self.block(body)?;
                 let otherwise = self.otherwise(otherwise)?;
-                Ok(branching(self.alloc, stmt.span, condition, body, otherwise)?)
+                branching(self.alloc, stmt.span, condition, body, otherwise)
             }
             StmtForm::Var(_, _, _)
             | StmtForm::New(_, _)
