@@ -29,11 +29,11 @@ use Rattle.crdt_defs.specs.Queries.{question, at_call, answer_at, held_in, winne
 use Rattle.crdt_defs.specs.Truths.{Reading, or_false, nth_con, answer_val, asked}
 use Rattle.crdt_defs.proofs.AskedLemmas.{first-meets}
 
-none-reached : (path : List PathStep) (end : Cr) → reached None path ≡ Some end → ⊥
+pub none-reached : (path : List PathStep) (end : Cr) → reached None path ≡ Some end → ⊥
 none-reached path end h = none-some end h
 
 -- what a map holds, whatever the type that the step asks of its keys
-held-reached : (ty : Ty) (crdt : Cr) (path : List PathStep) (end : Cr) → reached (held_at ty crdt) path ≡ Some end → reached (held_in crdt) path ≡ Some end
+pub held-reached : (ty : Ty) (crdt : Cr) (path : List PathStep) (end : Cr) → reached (held_at ty crdt) path ≡ Some end → reached (held_in crdt) path ≡ Some end
 held-reached ty (MapUw keys at_each) path end h = go (same_ty keys ty) h
   where
     go : (b : Bool) → reached (if b then Some at_each else None) path ≡ Some end → reached (Some at_each) path ≡ Some end

@@ -6,13 +6,14 @@ use Rattle.std.proofs.lemmas.List.Sums.{sum_by-cons}
 use Rattle.std.proofs.lemmas.Option.{none-some, same_Some}
 use Rattle.rp_value.specs.declared.tables.Ty.{Ty}
 use Rattle.rp_value.specs.Values.{Val}
-use Rattle.rp_lang.specs.Crdts.{Cr, MapUw, MapDw}
-use Rattle.rp_lang.specs.Paths.{field_in, held_at, reached, own_args}
+use Rattle.rp_lang.specs.Crdts.{Cr}
+use Rattle.rp_lang.specs.Paths.{field_in, reached, own_args}
 use Rattle.rp_lang.specs.Types.{same_ty}
 use Rattle.rp_lang.specs.declared.op.OpDecl.{OpDecl}
 use Rattle.rp_lang.specs.declared.op.PathStep.{PathStep}
 use Rattle.rp_lang.specs.declared.op.PathStep.TheVariants.{Field, Key}
 use Rattle.rp_lang.specs.declared.query.QueryKind.{QueryKind}
+use Rattle.crdt_defs.proofs.GotLemmas.{held-reached, none-reached}
 use Rattle.crdt_defs.specs.declared.asked.Winner.{Winner}
 use Rattle.crdt_defs.specs.Calls.{Call}
 use Rattle.crdt_defs.specs.SameValues.{value_is}
@@ -131,23 +132,6 @@ pub record End (ops : List OpDecl) (h : List Call) (kind : QueryKind) (crdt : Op
   pub those : ℕ → Bool
   pub asks : ask ops h kind crdt path depth counted args ≡ answer_at ops h steps those (question end kind) []
   pub have : (c : ℕ) → those c ≡ true → (call : Call) × At h c call × Starts (taken ++ args) call.args
-
-none-reached : (path : List PathStep) (end : Cr) → reached None path ≡ Some end → ⊥
-none-reached path end h = none-some end h
-
--- what a map holds, whatever the type that the step asks of its keys
-held-reached : (ty : Ty) (crdt : Cr) (path : List PathStep) (end : Cr) → reached (held_at ty crdt) path ≡ Some end → reached (held_in crdt) path ≡ Some end
-held-reached ty (MapUw keys at_each) path end h = go (same_ty keys ty) h
-  where
-    go : (b : Bool) → reached (if b then Some at_each else None) path ≡ Some end → reached (Some at_each) path ≡ Some end
-    go true h = h
-    go false h = absurd (none-reached path end h)
-held-reached ty (MapDw keys at_each) path end h = go (same_ty keys ty) h
-  where
-    go : (b : Bool) → reached (if b then Some at_each else None) path ≡ Some end → reached (Some at_each) path ≡ Some end
-    go true h = h
-    go false h = absurd (none-reached path end h)
-held-reached ty _ path end h = absurd (none-reached path end h)
 
 no-args : (args : List Val) → length args ≡ 0 → args ≡ []
 no-args [] h = refl

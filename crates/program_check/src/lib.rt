@@ -14,4 +14,5 @@ mod types;
 mod typing;
 mod well_formed;
 
+pub use bounds::{is_small_ex, is_small_fo};
 pub use program::checked_program;

@@ -31,7 +31,7 @@ pub use limit::LimitName;
 pub use lookup::{field_in, root_crdt};
 pub use op::{OpDecl, OpKind, PathStep};
 pub use proc::ProcDecl;
-pub use program::Program;
+pub use program::{Program, only_tx};
 pub use query::{QueryDecl, QueryKind};
 pub use refusal::Refusal;
 pub use root::Root;

@@ -1,7 +1,7 @@
 ghost use Rattle.std.specs.Prelude.{◌≡◌, IfOk, map};
 ghost use Rattle.std.specs.Option.{option_map};
 ghost use Rattle.rp_ast.specs.View.{con_view};
-ghost use Rattle.type_tables.specs.Tables.{IsIndexOf};
+ghost use Rattle.type_tables.specs.Tables.{IsIndexOf, place_from};
 ghost use Rattle.text_names.specs.Cons.{con_named};
 
 use rp_ast::ConNode;
@@ -33,6 +33,13 @@ impl<'a> ConList<'a> {
         ensures { result.now ≡ self.now.cons.now }
     {
         self.cons.as_slice()
+    }
+
+    /// The number of the first constructor of this name.
+    pub fn number(&self, name: &[u8]) -> Option<u32>
+        ensures { result ≡ place_from 0 (map (λ con. con.name.text) self.now.cons.now) name.now }
+    {
+        self.numbers.number(name)
     }
 
     /// The first constructor of this name.

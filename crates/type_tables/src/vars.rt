@@ -2,6 +2,7 @@ ghost use Rattle.std.specs.Prelude.{◌≡◌, ◌-◌, [], ◌∷◌, ◌++◌,
 ghost use Rattle.std.specs.Option.{option_map};
 ghost use Rattle.type_rules.specs.Accesses.{find_var};
 ghost use Rattle.type_rules.specs.Flow.{give, with_value};
+ghost use Rattle.type_tables.specs.Tables.{place_from};
 ghost use Rattle.type_tables.specs.Variables.{var_view, set_flags, with_flags, and_flags, give_last};
 
 use crate::flags::Flags;
@@ -67,6 +68,13 @@ impl<'a> Vars<'a> {
         ensures { result ≡ length self.now }
     {
         self.items.as_slice().len()
+    }
+
+    /// The place of the variable that the name stands for.
+    pub fn place(&self, name: &[u8]) -> Option<u32>
+        ensures { result ≡ place_from 0 (map (λ v. v.name) self.now) name.now }
+    {
+        self.places.number(name)
     }
 
     pub fn find(&self, name: &[u8]) -> Option<VarItem<'a>>

@@ -13,7 +13,9 @@ mod typing;
 
 pub use access::{Access, access_of, arg_kind, args_fit};
 pub use cases::{Case, Cases, case_field, cases_of, find_case, is_case, is_complete};
-pub use members::{Does, Member, is_operation};
+pub use members::{
+    Does, Member, data_of, is_operation, kind_over, member_kind, member_takes, members_of,
+};
 pub use paths::{Way, key_kind, stepped, way_from};
 pub use plain::is_plain;
 pub use queries::{names_of, param_var};

@@ -17,7 +17,7 @@ use type_rules::{Base, Kind};
 use type_tables::{BOOL_KIND, INT_KIND, UNKNOWN_KIND, maybe_of, plain_kind};
 
 /// What the operations and the queries of replicated types do.
-#[derive(Clone, Copy)]
+#[derive(Clone, Copy, PartialEq, Eq)]
 pub enum Does {
     Adds,
     Removes,
@@ -86,7 +86,7 @@ fn name_of(does: Does) -> &'static [u8]
 }
 
 /// What a replicated type has itself.
-fn members_of(crdt: &CrdtNode) -> &'static [Does]
+pub fn members_of(crdt: &CrdtNode) -> &'static [Does]
     ensures { (n : Names) → map (member_over (data_kind n (crdt_view crdt.now))) result.now
         ≡ spec.members_of n (spec.form_of (crdt_view crdt.now)) }
 {
@@ -103,7 +103,7 @@ fn members_of(crdt: &CrdtNode) -> &'static [Does]
 }
 
 /// The type that the members of a replicated type are over, where it writes one.
-fn data_of(crdt: &CrdtNode) -> Option<&TypeNode>
+pub fn data_of(crdt: &CrdtNode) -> Option<&TypeNode>
     ensures { (n : Names) → written_kind n result ≡ data_kind n (crdt_view crdt.now) }
 {
     match &crdt.what {
@@ -146,7 +146,7 @@ pub(crate) fn member_of<'a>(crdt: &'a CrdtNode, name: &[u8]) -> Option<Member<'a
 }
 
 /// The type that it is over.
-fn kind_over(names: &TextNames, member: Member) -> Result<Kind, Memory>
+pub fn kind_over(names: &TextNames, member: Member) -> Result<Kind, Memory>
     ensures { IfOk result (λ kind. kind ≡ written_kind (names_view names.now) member.entry.over) }
 {
     match member.over {
@@ -156,7 +156,7 @@ fn kind_over(names: &TextNames, member: Member) -> Result<Kind, Memory>
 }
 
 /// The type of an operation, or of what a query answers.
-pub(crate) fn member_kind(names: &TextNames, member: Member) -> Result<Kind, Memory>
+pub fn member_kind(names: &TextNames, member: Member) -> Result<Kind, Memory>
     ensures { IfOk result (λ kind. kind ≡ (member_view (names_view names.now) member.entry).result) }
 {
     match member.does {
@@ -170,7 +170,7 @@ pub(crate) fn member_kind(names: &TextNames, member: Member) -> Result<Kind, Mem
 }
 
 /// How many arguments it takes.
-pub(crate) fn member_takes(member: Member) -> usize
+pub fn member_takes(member: Member) -> usize
     ensures { (n : Names) → result ≡ length (member_view n member.entry).args }
 {
     match member.does {
