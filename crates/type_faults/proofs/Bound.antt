@@ -29,10 +29,10 @@ pub record BoundSo (later : List Name) (a b : Walk) (best : Option Fault) (place
 
 pub bound_started : {later : List Name} {a : Walk} {all : List Ident} {kinds : List Kind} → IsCounted a.later later
     → BoundSo later a a None 0 all all kinds
-bound_started counted = record {
+bound_started {later} counted = record {
   done = λ p. [];
   to = λ p. p.sight;
-  walks = here (λ p. []) refl refl counted;
+  walks = here {later = later} (λ p. []) refl refl counted;
   whole = refl;
   ends = refl;
 }
@@ -82,10 +82,10 @@ pub record ParamsSo (later : List Name) (a b : Walk) (best : Option Fault) (rest
       ≡ record (sight_of a) { vars = a.vars ++ param_vars (names_at a) all }
 
 pub params_started : {later : List Name} {a : Walk} {all : List ParamTree} → IsCounted a.later later → ParamsSo later a a None all all
-params_started counted = record {
+params_started {later} counted = record {
   done = λ p. [];
   to = λ p. p.sight;
-  walks = here (λ p. []) refl refl counted;
+  walks = here {later = later} (λ p. []) refl refl counted;
   whole = refl;
   ends = refl;
 }

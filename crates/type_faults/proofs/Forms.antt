@@ -60,13 +60,13 @@ step_formed {later} {a} {b} {f} way e walks =
 -- # Two sides
 
 -- of a form whose places are those of two expressions
-pub pair_formed : {later : List Name} {a b : Walk} {f : Option Fault} (w : Want) (at : Span) {x : ExprForm} (y : ExprForm) {l r : ExprTree} {u v : Want}
+pub pair_formed : {later : List Name} {a b : Walk} {f : Option Fault} (w : Want) (at : Span) {x : ExprForm} (y : ExprForm) (l r : ExprTree) {u v : Want}
     (first second : Names → List Var → Want) → x ≡ y
     → ((n : Names) (sc : Scope) → form_sites n sc w at y ≡ expr_sites n sc (first n sc.vars) l ++ expr_sites n sc (second n sc.vars) r)
     → u ≡ first (names_at a) a.vars → v ≡ second (names_at a) a.vars
     → Walks later a b f (λ p. expr_sites p.names (scope_at later p) u l ++ expr_sites p.names (scope_at later p) v r) (λ p. p.sight)
     → Walks later a b f (λ p. form_sites p.names (scope_at later p) w at x) (λ p. p.sight)
-pair_formed {later} {a} {b} {f} w at {x} y {l} {r} {u} {v} first second e parts one two walks =
+pair_formed {later} {a} {b} {f} w at {x} y l r {u} {v} first second e parts one two walks =
     let n = names_at a in
     let sc = scope_at later (stand_of a) in
     formed w at e

@@ -15,7 +15,10 @@ use Rattle.type_faults.specs.Walks.{Lowers, Raises, Walks, own_names, stand_of}
 use Rattle.type_faults.proofs.Meeting.{declared_own}
 use Rattle.type_faults.proofs.Walked.{none_marked}
 
-counted_cons : (x y : Name) (names : List Name) → count_by (same_name x) (y ∷ names) ≡ cond (same_name x y) 1 0 + count_by (same_name x) names
+abbrev one_if : Bool → ℕ
+one_if b = cond b 1 0
+
+counted_cons : (x y : Name) (names : List Name) → count_by (same_name x) (y ∷ names) ≡ one_if (same_name x y) + count_by (same_name x) names
 counted_cons x y names = sum_by-cons (λ z. cond (same_name x z) 1 0) y names
 
 counted_append : (x : Name) (a b : List Name) → count_by (same_name x) (a ++ b) ≡ count_by (same_name x) a + count_by (same_name x) b
@@ -32,10 +35,10 @@ raised old new y own e is x =
     ap (λ (f : Counts). f x) e ∙ by (same_name y x) (nat_list_eq_equiv.symm x y) (counted_cons x y [])
     ∙ ap (λ l. count_in old x + count_by (same_name x) l) (sym is)
   where
-    by : (b : Bool) → same_name x y ≡ b → count_by (same_name x) (y ∷ []) ≡ cond (same_name x y) 1 0 + 0
+    by : (b : Bool) → same_name x y ≡ b → count_by (same_name x) (y ∷ []) ≡ one_if (same_name x y) + 0
         → (if b then count_in old x + 1 else count_in old x) ≡ count_in old x + count_by (same_name x) (y ∷ [])
-    by true s one = let n : cond (same_name x y) 1 0 ≡ 1 = ap (λ b. cond b 1 0) s in omega (arith, n, one)
-    by false s one = let n : cond (same_name x y) 1 0 ≡ 0 = ap (λ b. cond b 1 0) s in omega (arith, n, one)
+    by true s one = let n : one_if (same_name x y) ≡ 1 = ap one_if s in omega (arith, n, one)
+    by false s one = let n : one_if (same_name x y) ≡ 0 = ap one_if s in omega (arith, n, one)
 
 pub lowered : (old new : Entries) (y : Name) (own : List Name) → count_in new ≡ one_less y (count_in old) → own ≡ y ∷ []
     → (x : Name) → count_in new x ≡ count_in old x - count_by (same_name x) own
@@ -43,10 +46,10 @@ lowered old new y own e is x =
     ap (λ (f : Counts). f x) e ∙ by (same_name y x) (nat_list_eq_equiv.symm x y) (counted_cons x y [])
     ∙ ap (λ l. count_in old x - count_by (same_name x) l) (sym is)
   where
-    by : (b : Bool) → same_name x y ≡ b → count_by (same_name x) (y ∷ []) ≡ cond (same_name x y) 1 0 + 0
+    by : (b : Bool) → same_name x y ≡ b → count_by (same_name x) (y ∷ []) ≡ one_if (same_name x y) + 0
         → (if b then count_in old x - 1 else count_in old x) ≡ count_in old x - count_by (same_name x) (y ∷ [])
-    by true s one = let n : cond (same_name x y) 1 0 ≡ 1 = ap (λ b. cond b 1 0) s in omega (arith, n, one)
-    by false s one = let n : cond (same_name x y) 1 0 ≡ 0 = ap (λ b. cond b 1 0) s in omega (arith, n, one)
+    by true s one = let n : one_if (same_name x y) ≡ 1 = ap one_if s in omega (arith, n, one)
+    by false s one = let n : one_if (same_name x y) ≡ 0 = ap one_if s in omega (arith, n, one)
 
 pub none_raised : (es : Entries) (own : List Name) → own ≡ [] → (x : Name) → count_in es x ≡ count_in es x + count_by (same_name x) own
 none_raised es own e x = let none : count_by (same_name x) own ≡ 0 = ap (count_by (same_name x)) e in omega (arith, none)
@@ -85,9 +88,9 @@ raised_ended {a} {b} {rest} {all} v e = record {
   used = v.used;
 }
 
-pub raised_walk : {a b : Walk} {own later : List Name} → Raises a b own → IsCounted a.later later
+pub raised_walk : {a b : Walk} {own : List Name} (later : List Name) → Raises a b own → IsCounted a.later later
     → Walks (own ++ later) a b None (λ p. []) (λ p. p.sight)
-raised_walk {a} {b} {own} {later} r counted = record {
+raised_walk {a} {b} {own} later r counted = record {
   fault_is = refl;
   marks = ap flag_at r.used ∙ sym (none_marked (not a.words) (flag_at a.used));
   stands = r.stands;

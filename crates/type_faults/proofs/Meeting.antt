@@ -45,7 +45,7 @@ met {later} {a} {b} {c} {d} {f} {ys} {t} {before} {behind} g counted was now lik
     ap (and_flags to.vars) now.set ∙ joined_is a.vars to.vars (like ∙ sym kept) in
     let live : (to.live || behind.live) ≡ (a.live || to.live) = ap (λ l. to.live || l) now.live ∙ or_comm to.live a.live in
     recast (λ p. ys (seeing p g)) (λ p. join p.sight (t (seeing p g)))
-    (then_turned (both (turned back counted) walk refl) meet)
+    (then_turned (both {before = later} (turned {later = later} back counted) walk refl) meet)
     (ap (λ g. ys (seeing p g)) start)
     (ap (λ g. joined behind (t (seeing p g))) start ∙ ap₂ (λ vs l. record { vars = vs; live = l }) vars live)
 
@@ -74,9 +74,9 @@ declared_own (StmtTree.node at (StmtForm.atomic b)) rest = refl
 declared_own (StmtTree.node at (StmtForm.assert e)) rest = refl
 declared_own (StmtTree.node at (StmtForm.return e)) rest = refl
 
-pub counted_own : {entries : Entries} (s : StmtTree) (rest : StmtTrees) (later : List Name)
+pub counted_own : (entries : Entries) (s : StmtTree) (rest : StmtTrees) (later : List Name)
     → IsCounted entries (declared_in (StmtTrees.more_stmts s rest) ++ later) → IsCounted entries (own_names s ++ (declared_in rest ++ later))
-counted_own {entries} s rest later counted =
+counted_own entries s rest later counted =
     subst (IsCounted entries) (ap (λ l. l ++ later) (declared_own s rest) ∙ append_assoc (own_names s) (declared_in rest) later) counted
 
 pub stmts_next : {later : List Name} {frame : code_frame.Frame} {a b c d : Walk} {best f h : Option Fault} {s : StmtTree} {rest all : StmtTrees}
@@ -167,7 +167,7 @@ arms_next {later} {frame} {kind} {g} {table} {after_table} {a} {b} {c} {best} {f
       done = λ p. v.done p ++ arm_own_sites p.names (frame_at later frame p) g kind v.names arm;
       to = λ p. join (v.to p) (after_arm p.names g kind arm);
       walks = both v.walks walk e;
-      whole = append_assoc (v.done p) (one ++ two) next ∙ ap (λ l. v.done p ++ l) (append_assoc one two next) ∙ v.whole;
+      whole = append_assoc (v.done p) (one ++ two) next ∙ v.whole;
       bare_is = both_bare (v.to p).vars behind.vars []
           (arm_keeps p.names g kind arm ∙ sym v.bare_is ∙ sym (append-nil (bare (v.to p).vars))) ∙ v.bare_is;
       ends = join_assoc (v.to p) behind (after_arms p.names g kind rest) ∙ v.ends;
@@ -215,7 +215,7 @@ expr_arms_next {later} {kind} {table} {after_table} {a} {b} {c} {best} {f} {h} {
       table_is = table_more table after_table v.names (pattern_name x) 0 v.table_is more;
       done = λ p. v.done p ++ expr_arm_own later kind v.names (ExprArmTree.arm x e) p;
       walks = both v.walks walk is;
-      whole = append_assoc (v.done p) (one ++ two) next ∙ ap (λ l. v.done p ++ l) (append_assoc one two next) ∙ v.whole;
+      whole = append_assoc (v.done p) (one ++ two) next ∙ v.whole;
     }
 
 pub expr_arms_started : {later : List Name} {kind : Kind} {table : Entries} {a : Walk} {all : ExprArmTrees} → IsCounted a.later later → table ≡ []
@@ -224,7 +224,7 @@ expr_arms_started {later} {kind} {table} {a} {all} counted e = record {
   names = [];
   table_is = no_names e;
   done = λ p. [];
-  walks = here (λ p. []) refl refl counted;
+  walks = here {later = later} (λ p. []) refl refl counted;
   whole = refl;
 }
 

@@ -13,7 +13,7 @@ use Rattle.type_rules.specs.declared.role.Role.{Role}
 use Rattle.type_rules.specs.declared.role.Role.TheVariants as role
 use Rattle.type_rules.specs.Names.{Name, Names, is_among, param_name, same_name, text_of}
 use Rattle.type_rules.specs.Sites.{Site}
-use Rattle.type_rules.specs.DeclSites.{con_sites, crdt_form_sites, crdt_sites, fields_sites, named_all, query_sites, result_sites, written_all}
+use Rattle.type_rules.specs.DeclSites.{con_sites, crdt_form_sites, crdt_sites, field_names, fields_sites, named_all, query_sites, result_sites, written_all}
 use Rattle.type_rules.specs.TextSites.{Seen, decl_sites, inner_sites, is_number_of, name_sites, names_in, used, used_from, with_decl, with_query}
 use Rattle.type_rules.specs.Faults.{first, is_before, judged, keep, sooner}
 use Rattle.type_rules.proofs.Order.{assoc, first_append, sooner_none, yes, no}
@@ -70,10 +70,12 @@ result_unused n k (Some t) = refl
 pub con_unused : (n : Names) (k : ℕ) (cons : List ConTree) → used n (con_sites k cons) ≡ []
 con_unused n k [] = refl
 con_unused n k (ConTree.con x params ∷ cons) =
-    used_append n (named_all [] (map param_name params)) _
-    ∙ ap₂ (λ a b. a ++ b) (named_unused n [] (map param_name params))
-    (used_append n (written_all k _ params) (con_sites k cons)
-    ∙ ap₂ (λ a b. a ++ b) (written_unused n k _ params) (con_unused n k cons))
+    let names = named_all [] (map param_name params) in
+    let written = written_all k role.Field params in
+    used_append n (names ++ written) (con_sites k cons)
+    ∙ ap₂ (λ a b. a ++ b)
+    (used_append n names written ∙ ap₂ (λ a b. a ++ b) (named_unused n [] (map param_name params)) (written_unused n k role.Field params))
+    (con_unused n k cons)
 
 mutual
   pub crdt_unused : (n : Names) (k : ℕ) (c : CrdtTree) → used n (crdt_sites k c) ≡ []
@@ -88,8 +90,8 @@ mutual
   form_unused n k (CrdtForm.map_uw t c) = crdt_unused n k c
   form_unused n k (CrdtForm.map_dw t c) = crdt_unused n k c
   form_unused n k (CrdtForm.struct parts) =
-      used_append n (named_all [] _) (fields_sites k parts)
-      ∙ ap₂ (λ a b. a ++ b) (named_unused n [] _) (fields_unused n k parts)
+      used_append n (named_all [] (field_names parts)) (fields_sites k parts)
+      ∙ ap₂ (λ a b. a ++ b) (named_unused n [] (field_names parts)) (fields_unused n k parts)
 
   fields_unused : (n : Names) (k : ℕ) (parts : FieldTrees) → used n (fields_sites k parts) ≡ []
   fields_unused n k FieldTrees.no_fields = refl
@@ -143,9 +145,9 @@ seen_among y before (x ∷ own) =
     by true false c = refl
     by false b c = refl
 
-pub seen_table : {table : Entries} (before : List Name) (own : List Ident) → IsTableOf table (seen_with before own)
+pub seen_table : (table : Entries) (before : List Name) (own : List Ident) → IsTableOf table (seen_with before own)
     → IsTableOf table (names_in own ++ before)
-seen_table before own t = λ y. t y ∙ seen_among y before own
+seen_table table before own t = λ y. t y ∙ seen_among y before own
 
 pub record DeclsNamed (n : Names) (tables : code_seen.Seen) (best : Option Fault) (start : Seen) (rest all : List DeclTree) : Type 0 where
   pub now : Seen
@@ -181,7 +183,7 @@ names_apart n seen k (DeclTree.node at form ∷ ds) =
     ∙ sym (swapped (first n own) (first n inside) (first n names) (first n next))
     ∙ ap (λ o. sooner (first n own) (sooner (first n inside) o)) (names_apart n (with_decl seen form) (k + 1) ds)
     ∙ ap (sooner (first n own)) (sym (first_append n inside rest))
-    ∙ sym (first_append n own (inside ++ rest))
+    ∙ sym (first_append n own (inside ++ rest)) ∙ ap (first n) (sym (append_assoc own inside rest))
 
 pub used_is : (n : Names) (k : ℕ) (at : Span) (form : DeclForm) (ds : List DeclTree)
     → used_from n k (DeclTree.node at form ∷ ds) ≡ used_with n k form (used_from n (k + 1) ds)
@@ -233,13 +235,13 @@ query_marked n k q behind u v words was w e i = by (is_number_of k behind) refl
         ∙ ap (λ b. is_number_of i (if b then used n (query_sites n k false q) ++ behind else behind)) (sym h)
 
 -- the best so far and the first of the rest are the first of all: one step further
-pub best_next : {best own h whole next rest : Option Fault} → sooner best rest ≡ whole → rest ≡ sooner own next → h ≡ sooner best own
+pub best_next : (best own next : Option Fault) {h whole rest : Option Fault} → sooner best rest ≡ whole → rest ≡ sooner own next → h ≡ sooner best own
     → sooner h next ≡ whole
-best_next {best = best} {own = own} {next = next} before split e =
+best_next best own next before split e =
     ap (λ o. sooner o next) e ∙ assoc best own next ∙ ap (sooner best) (sym split) ∙ before
 
-pub best_ended : {best whole rest : Option Fault} → sooner best rest ≡ whole → rest ≡ None → best ≡ whole
-best_ended {best = best} before e = sym (sooner_none best) ∙ ap (sooner best) (sym e) ∙ before
+pub best_ended : (best : Option Fault) {whole rest : Option Fault} → sooner best rest ≡ whole → rest ≡ None → best ≡ whole
+best_ended best before e = sym (sooner_none best) ∙ ap (sooner best) (sym e) ∙ before
 
 -- of constructors, the first and then the others
 pub con_split : (n : Names) (k : ℕ) (con : ConTree) (cons : List ConTree)
@@ -249,15 +251,16 @@ con_split n k (ConTree.con x params) cons =
     let written = written_all k role.Field params in
     let own = con_sites k (ConTree.con x params ∷ []) in
     let same : own ++ con_sites k cons ≡ con_sites k (ConTree.con x params ∷ cons) =
-    append_assoc names (written ++ []) (con_sites k cons) ∙ ap (λ l. names ++ (l ++ con_sites k cons)) (append-nil written) in
+    ap (λ l. l ++ con_sites k cons) (append-nil (names ++ written)) in
     ap (first n) (sym same) ∙ first_append n own (con_sites k cons)
 
 pub con_parts : (n : Names) (k : ℕ) (x : Ident) (params : List ParamTree)
     → first n (con_sites k (ConTree.con x params ∷ []))
     ≡ sooner (first n (named_all [] (map param_name params))) (first n (written_all k role.Field params))
 con_parts n k x params =
-    first_append n (named_all [] (map param_name params)) (written_all k role.Field params ++ [])
-    ∙ ap (λ l. sooner (first n (named_all [] (map param_name params))) (first n l)) (append-nil (written_all k role.Field params))
+    let names = named_all [] (map param_name params) in
+    let written = written_all k role.Field params in
+    ap (first n) (append-nil (names ++ written)) ∙ first_append n names written
 
 -- # Replicated types
 

@@ -128,8 +128,8 @@ here {a} {f} {later} sites e unused counted = record {
 -- one of them
 pub here_one : {a : Walk} {f : Option Fault} {later : List Name} (site : Stand → Site) → f ≡ judged (names_at a) (site (stand_of a))
     → used_at (names_at a) (site (stand_of a)) ≡ [] → IsCounted a.later later → Walks later a a f (λ p. site p ∷ []) (λ p. p.sight)
-here_one {a} site e unused counted =
-    here (λ p. site p ∷ []) (e ∙ sym (sooner_none (judged (names_at a) (site (stand_of a)))))
+here_one {a} {f} {later} site e unused counted =
+    here {later = later} (λ p. site p ∷ []) (e ∙ sym (sooner_none (judged (names_at a) (site (stand_of a)))))
     (append-nil (used_at (names_at a) (site (stand_of a))) ∙ unused) counted
 
 -- no place
@@ -166,7 +166,7 @@ both {before} {later} {a} {b} {c} {f} {g} {h} {xs} {ys} {s} {t} v w e =
 -- a turn behind a walk
 pub then_turned : {later : List Name} {a b c : Walk} {f : Option Fault} {xs : Stand → List Site} {s t : Stand → Sight}
     → Walks later a b f xs s → Turns b c t → Walks later a c f xs (λ p. t (seeing p (s p)))
-then_turned {later} {a} {b} {c} v w = record {
+then_turned {later} {a} {b} {c} {f} {xs} {s} {t} v w = record {
   fault_is = v.fault_is;
   marks = ap flag_at w.used ∙ v.marks;
   stands = w.stands ∙ ap (λ (p : Stand). seeing p (t p)) v.stands;
@@ -221,7 +221,7 @@ pub record Walked (later : List Name) (a b : Walk) (best : Option Fault) (rest a
 pub started : {later : List Name} {a : Walk} {all : List Site} → IsCounted a.later later → Walked later a a None all all (λ p. p.sight)
 started {later} {a} counted = record {
   done = λ p. [];
-  walks = here (λ p. []) refl refl counted;
+  walks = here {later = later} (λ p. []) refl refl counted;
   whole = refl;
 }
 

@@ -1,6 +1,6 @@
 //! The first faults of expressions.
 
-ghost use Rattle.std.specs.Prelude.{◌≡◌, ◌∷◌, ◌++◌, [], codes, IfOk, List};
+ghost use Rattle.std.specs.Prelude.{◌≡◌, ◌∷◌, ◌++◌, [], codes, false, true, IfOk, List};
 ghost use Rattle.std.specs.Option.{option_map};
 ghost use Rattle.rp_ast.specs.View as tree;
 ghost use Rattle.rp_ast.specs.declared.expr.AccessStep.TheViews.{out-AccessNode};

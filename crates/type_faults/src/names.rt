@@ -2,6 +2,7 @@
 
 ghost use Rattle.std.specs.Prelude.{◌≡◌, [], ◌∷◌, IfOk, List, map};
 ghost use Rattle.rp_ast.specs.View as tree;
+ghost use Rattle.rp_grammar.specs.Trees.{DeclForm as DeclTree, ExprTree};
 ghost use Rattle.type_rules.specs.Names.{Name, Names, con_name, param_name};
 ghost use Rattle.type_rules.specs.DeclSites.{field_names, named_all};
 ghost use Rattle.type_rules.specs.TextSites.{Seen as AllSeen, nothing_seen};
@@ -35,6 +36,17 @@ impl<'a> Seen<'a> {
         }
     }
 
+    /// That of an invariant, if it has a name.
+    fn invariant(&mut self, name: &'a Option<Ident>) -> Found
+        ensures { (n : Names) (seen : AllSeen) (e : ExprTree) → AreSeen self.old seen
+            → IfOk result (λ fault. AreNamed n self.new seen fault (DeclTree.invariant (tree.optional tree.ident_view name.now) e)) }
+    {
+        match name {
+            Some(name) => name_fault(&mut self.invariants, name),
+            None => Ok(None),
+        }
+    }
+
     /// The first fault of the names that a declaration declares, which are then seen too.
     fn declared(&mut self, form: &'a DeclForm) -> Found
         ensures { (n : Names) (seen : AllSeen) → AreSeen self.old seen
@@ -50,8 +62,7 @@ impl<'a> Seen<'a> {
             }
             DeclForm::Crdt(name, _) => name_fault(&mut self.others, name),
             DeclForm::Query(query) => name_fault(&mut self.others, &query.name),
-            DeclForm::Invariant(Some(name), _) => name_fault(&mut self.invariants, name),
-            DeclForm::Invariant(None, _) => Ok(None),
+            DeclForm::Invariant(name, _) => self.invariant(name),
             DeclForm::Proc(proc) => name_fault(&mut self.others, &proc.name),
         }
     }

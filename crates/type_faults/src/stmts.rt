@@ -128,8 +128,10 @@ impl<'n, 'a> Walk<'n, 'a> {
             (λ p. flow.after_else p.names p.sight (tree.maybe_else_view otherwise.now))) }
     {
         match otherwise {
-            Some(ElseNode::Block(block)) => self.block(frame, block),
-            Some(ElseNode::If(stmt)) => self.stmt(frame, true, stmt.get()),
+            Some(way) => match way {
+                ElseNode::Block(block) => self.block(frame, block),
+                ElseNode::If(stmt) => self.stmt(frame, true, stmt.get()),
+            },
             None => Ok(None),
         }
     }

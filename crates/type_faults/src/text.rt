@@ -26,12 +26,12 @@ fn walked<'n, 'a>(alloc: Global, names: &'n TextNames<'a>, ast: &'a Ast) -> Foun
 }
 
 /// The first fault inside the declarations of a text that has these roots.
-fn inner<'r, 'a>(alloc: Global, roots: &'r Roots<'a>, ast: &'a Ast) -> Found
+fn inner<'r, 'a>(alloc: Global, roots: &'r Roots<'a>, ast: &'r Ast) -> Found
     ensures { roots_seen (trees_of roots.now.parts.items) roots.now.places ≡ map crdt_in (ast_view ast.now)
         → IfOk result (λ fault. fault ≡ first (all_names (ast_view ast.now))
         (inner_from (all_names (ast_view ast.now)) 0 (ast_view ast.now))) }
 {
-    let names = names_of(alloc, roots, ast)?;
+    let names = names_of(alloc, &*roots, ast)?;
     walked(alloc, &names, ast)
 }
 
@@ -45,6 +45,6 @@ pub fn first_fault(alloc: Global, ast: &Ast) -> Result<Option<Fault>, Memory>
 {
     let named = decls_differ(alloc, ast.decls.as_slice())?;
     let roots = Roots::of(alloc, ast.decls.as_slice())?;
-    let below = inner(alloc, &roots, ast)?;
+    let below = inner(alloc, &roots, &*ast)?;
     Ok(sooner(named, below))
 }

@@ -18,6 +18,6 @@ returns c = λ n names table.
       fault_is = c.judge_named-fault.ensures n names
           (c.is_some.ensures ∙ ap is_some c.number.ensures ∙ ap (λ x. is_some (number_in before x)) text ∙ table name.text)
           ∙ sym (sooner_none (judged n (Site.named names (ident_view name))));
-      table_is = table_more before c.add.new.before names name.text 0 table
+      table_is = table_more before c.add.new.self names name.text 0 table
           (c.in_ok-add.ensures.ok ∙ ap (λ x. with_first (number_in before) x 0) text);
     }

@@ -88,7 +88,7 @@ fields-loop-field-preserved t c =
     let i = c.loop-field.field-index in
     let field = c.field-item.result in
     let rest = fields_view (drop (i + 1) fields) in
-    best_next c.loop-field.invariant
+    best_next c.loop-field.best c.in_ok-crdt.field-0 (first n (fields_sites w.decl rest)) c.loop-field.invariant
     (next_in (λ l. first n (fields_sites w.decl (fields_view l))) fields i field c.loop-field-test.true c.field-item.is
     ∙ ap (λ f. first n (fields_sites w.decl (FieldTrees.more_fields f rest))) (field_view-parts field)
     ∙ first_append n (crdt_sites w.decl (crdt_view field.crdt)) (fields_sites w.decl rest)
@@ -98,5 +98,5 @@ fields-loop-field-preserved t c =
 pub fields-returns : goal.fields-returns
 fields-returns t c =
     let w = c.args.self.now in
-    best_ended c.loop-field.invariant
+    best_ended c.loop-field.best c.loop-field.invariant
     (ap (λ l. first (names_at w) (fields_sites w.decl (fields_view l))) (drop_past c.args.fields.now c.loop-field.field-index c.loop-field-test.false))

@@ -34,7 +34,7 @@ behind-returns t c = λ later counted. follows (c.in_ok-own.ensures later counte
 -- # Lists
 
 pub operands-loop-operand-init : goal.operands-loop-operand-init
-operands-loop-operand-init t c = λ later counted. started counted
+operands-loop-operand-init t c = λ later counted. started {later = later} counted
 
 pub operands-loop-operand-preserved : goal.operands-loop-operand-preserved
 operands-loop-operand-preserved t c = λ later counted.
@@ -58,7 +58,7 @@ operands-returns t c = λ later counted.
     (ap (λ l. spec.operand_sites n sc (tree.exprs_view l)) (drop_past es c.loop-operand.operand-index c.loop-operand-test.false))
 
 pub word-loop-place-init : goal.word-loop-place-init
-word-loop-place-init t c = λ later counted. started counted
+word-loop-place-init t c = λ later counted. started {later = later} counted
 
 pub word-loop-place-preserved : goal.word-loop-place-preserved
 word-loop-place-preserved t c = λ later counted.
@@ -89,7 +89,7 @@ word-returns t c = λ later counted.
     (ap (λ l. spec.arg_sites n sc false (drop i kinds) (tree.exprs_view l)) (drop_past es i c.loop-place-test.false))
 
 pub args-loop-place-init : goal.args-loop-place-init
-args-loop-place-init t c = λ later counted. started counted
+args-loop-place-init t c = λ later counted. started {later = later} counted
 
 pub args-loop-place-preserved : goal.args-loop-place-preserved
 args-loop-place-preserved t c = λ later counted.
@@ -120,7 +120,7 @@ args-returns t c = λ later counted.
     (ap (λ l. spec.arg_sites n sc true (drop i kinds) (tree.exprs_view l)) (drop_past es i c.loop-place-test.false))
 
 pub keys-loop-step-init : goal.keys-loop-step-init
-keys-loop-step-init t c = λ later counted. started counted
+keys-loop-step-init t c = λ later counted. started {later = later} counted
 
 pub keys-loop-step-preserved : goal.keys-loop-step-preserved
 keys-loop-step-preserved t c = λ later counted.
@@ -152,12 +152,12 @@ keys-returns t c = λ later counted.
 pub key-returns-in-Dot : goal.key-returns-in-Dot
 key-returns-in-Dot t c = λ later counted.
     step_formed (λ p. way_view p.names c.args.way) (ap tree.step_view c.in-Dot.is ∙ step_view-Dot c.in-Dot.field-0)
-    (here (λ p. []) refl refl counted)
+    (here {later = later} (λ p. []) refl refl counted)
 
 pub key-returns-in-Returned : goal.key-returns-in-Returned
 key-returns-in-Returned t c = λ later counted.
     step_formed (λ p. way_view p.names c.args.way) (ap tree.step_view c.in-Returned.is ∙ step_view-Returned c.in-Returned.field-0)
-    (here (λ p. []) refl refl counted)
+    (here {later = later} (λ p. []) refl refl counted)
 
 pub key-returns-in_ok-kind-in-Key : goal.key-returns-in_ok-kind-in-Key
 key-returns-in_ok-kind-in-Key t c = λ later counted.
@@ -176,12 +176,12 @@ given-returns-in-Some t c = λ later counted.
     let n = names_at a in
     let sc = scope_at later (stand_of a) in
     let kinds = args_of n (access_view n c.args.what) in
-    if_ok c.args-2.result
+    if_ok c.args-in-Some.result
     (λ f w. recast (λ p. spec.given_sites p.names (scope_at later p) (args_of p.names (access_view p.names c.args.what))
     (tree.args_view (out-AccessNode c.args.access.now).args)) (λ p. p.sight) w
     (ap (λ es. spec.arg_sites n sc true kinds (tree.exprs_view es)) c.as_slice.ensures.items
     ∙ ap (λ o. spec.given_sites n sc kinds (tree.args_view o)) (sym c.in-Some.is)) refl)
-    (c.args-2.ensures later counted)
+    (c.args-in-Some.ensures later counted)
 
 pub given-returns-in-None : goal.given-returns-in-None
 given-returns-in-None t c = λ later counted.
@@ -190,7 +190,7 @@ given-returns-in-None t c = λ later counted.
     let sc = scope_at later (stand_of a) in
     let kinds = args_of n (access_view n c.args.what) in
     recast (λ p. spec.given_sites p.names (scope_at later p) (args_of p.names (access_view p.names c.args.what))
-    (tree.args_view (out-AccessNode c.args.access.now).args)) (λ p. p.sight) (here (λ p. []) refl refl counted)
+    (tree.args_view (out-AccessNode c.args.access.now).args)) (λ p. p.sight) (here {later = later} (λ p. []) refl refl counted)
     (ap (λ o. spec.given_sites n sc kinds (tree.args_view o)) (sym c.in-None.is)) refl
 
 pub access-returns : goal.access-returns
@@ -258,7 +258,7 @@ arms-returns t c = λ later counted.
     follows (both word below c.sooner.ensures) c.sooner-2.ensures
 
 pub each_arm-loop-arm-init : goal.each_arm-loop-arm-init
-each_arm-loop-arm-init t c = λ later kind counted cases. expr_arms_started counted c.new-before.ensures
+each_arm-loop-arm-init t c = λ later kind counted cases. expr_arms_started {later = later} counted c.new-before.ensures
 
 pub each_arm-loop-arm-preserved : goal.each_arm-loop-arm-preserved
 each_arm-loop-arm-preserved t c = λ later kind counted cases.
@@ -293,7 +293,7 @@ below-returns-in_ok-first-in-Implies t c = λ later counted.
     let l = c.get.result.now in
     let r = c.get-in-Implies.result.now in
     if_ok c.behind.result
-    (λ f w. pair_formed want at (ExprForm.implies (tree.expr_view l) (tree.expr_view r)) (λ n vs. spec.bool_operand) (λ n vs. spec.bool_operand)
+    (λ f w. pair_formed want at (ExprForm.implies (tree.expr_view l) (tree.expr_view r)) (tree.expr_view l) (tree.expr_view r) (λ n vs. spec.bool_operand) (λ n vs. spec.bool_operand)
     (ap tree.expr_form_view c.in-Implies.is ∙ expr_form_view-Implies c.in-Implies.left c.in-Implies.right
     ∙ ap₂ (λ l r. ExprForm.implies (tree.expr_view l) (tree.expr_view r)) (sym c.get.ensures) (sym c.get-in-Implies.ensures))
     (λ n sc. refl) c.bool_operand.ensures c.bool_operand-in-Implies.ensures (both_of first w))
@@ -307,7 +307,7 @@ below-returns-in_ok-first-in-Plus t c = λ later counted.
     let l = c.get-in-Plus.result.now in
     let r = c.get-in-Plus-2.result.now in
     if_ok c.behind-in-Plus.result
-    (λ f w. pair_formed want at (ExprForm.plus (tree.expr_view l) (tree.expr_view r)) (λ n vs. spec.int_operand) (λ n vs. spec.int_operand)
+    (λ f w. pair_formed want at (ExprForm.plus (tree.expr_view l) (tree.expr_view r)) (tree.expr_view l) (tree.expr_view r) (λ n vs. spec.int_operand) (λ n vs. spec.int_operand)
     (ap tree.expr_form_view c.in-Plus.is ∙ expr_form_view-Plus c.in-Plus.left c.in-Plus.right
     ∙ ap₂ (λ l r. ExprForm.plus (tree.expr_view l) (tree.expr_view r)) (sym c.get-in-Plus.ensures) (sym c.get-in-Plus-2.ensures))
     (λ n sc. refl) c.int_operand.ensures c.int_operand-in-Plus.ensures (both_of first w))
@@ -321,7 +321,7 @@ below-returns-in_ok-first-in-Minus t c = λ later counted.
     let l = c.get-in-Minus.result.now in
     let r = c.get-in-Minus-2.result.now in
     if_ok c.behind-in-Minus.result
-    (λ f w. pair_formed want at (ExprForm.minus (tree.expr_view l) (tree.expr_view r)) (λ n vs. spec.int_operand) (λ n vs. spec.int_operand)
+    (λ f w. pair_formed want at (ExprForm.minus (tree.expr_view l) (tree.expr_view r)) (tree.expr_view l) (tree.expr_view r) (λ n vs. spec.int_operand) (λ n vs. spec.int_operand)
     (ap tree.expr_form_view c.in-Minus.is ∙ expr_form_view-Minus c.in-Minus.left c.in-Minus.right
     ∙ ap₂ (λ l r. ExprForm.minus (tree.expr_view l) (tree.expr_view r)) (sym c.get-in-Minus.ensures) (sym c.get-in-Minus-2.ensures))
     (λ n sc. refl) c.int_operand-in-Minus.ensures c.int_operand-in-Minus-2.ensures (both_of first w))
@@ -339,7 +339,7 @@ below-returns-in_ok-first-in-Compare t c = λ later counted.
     let left = c.get-in-Compare.ensures ∙ sym c.get-in-Compare-3.ensures in
     let right = c.get-in-Compare-2.ensures ∙ sym c.get-in-Compare-4.ensures in
     if_ok c.behind-in-Compare.result
-    (λ f w. pair_formed want c.args.e.now.span (ExprForm.compare op (tree.expr_view l) (tree.expr_view r))
+    (λ f w. pair_formed want c.args.e.now.span (ExprForm.compare op (tree.expr_view l) (tree.expr_view r)) (tree.expr_view l) (tree.expr_view r)
     (λ n vs. spec.left_want n vs op (tree.expr_view l) (tree.expr_view r)) (λ n vs. spec.right_want n vs op (tree.expr_view l) (tree.expr_view r))
     (ap tree.expr_form_view c.in-Compare.is ∙ expr_form_view-Compare op c.in-Compare.left c.in-Compare.right
     ∙ ap₂ (λ l r. ExprForm.compare op (tree.expr_view l) (tree.expr_view r)) (sym c.get-in-Compare-3.ensures) (sym c.get-in-Compare-4.ensures))

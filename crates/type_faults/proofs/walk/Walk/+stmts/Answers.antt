@@ -19,6 +19,7 @@ use Rattle.type_tables.specs.Tables.{number_in, with_first}
 use Rattle.type_terms.specs.Views.{cases_view}
 use Rattle.text_names.proofs.Entries.{drop_past, if_ok}
 use Rattle.type_faults.specs.Flows.{bare}
+use Rattle.type_judges.specs.Places.{want_view}
 use Rattle.type_faults.specs.Walks.{Stand, Walks, arm_own_sites, frame_at, names_at, quiet_at, scope_at, seeing, sight_of, stand_of}
 use Rattle.type_faults.proofs.Meeting.{ArmsWalked, StmtsWalked, arm_name, arms_alike, arms_ended, arms_next, arms_started, counted_own, last_is, met, stmt_formed, stmts_ended, stmts_next, stmts_started}
 use Rattle.type_faults.proofs.Flows.{arm_keeps, block_keeps, both_take, else_begins, left_bare, sight_back}
@@ -58,7 +59,7 @@ stmts-loop-place-preserved t c = λ later counted words.
     let rest = tree.stmts_view (drop (i + 1) stmts) in
     let now = subst (λ rest. StmtsWalked later c.args.frame a c.loop-place.self c.loop-place.best rest (tree.stmts_view stmts))
     (next_in tree.stmts_view stmts i s c.loop-place-test.true c.index-stmts-place.is) (c.loop-place.invariant later counted words) in
-    let passed = c.pass.ensures (spec.declared_in rest ++ later) (counted_own (tree.stmt_view s) rest later now.walks.counted) in
+    let passed = c.pass.ensures (spec.declared_in rest ++ later) (counted_own c.loop-place.self.later (tree.stmt_view s) rest later now.walks.counted) in
     let walk = c.in_ok-stmt.ensures (spec.declared_in rest ++ later) passed.counted (same_words passed ∙ same_words now.walks ∙ words) in
     stmts_next now passed
     (subst (λ last. Walks (spec.declared_in rest ++ later) c.pass.new.self c.stmt.new.self c.in_ok-stmt.field-0
@@ -79,7 +80,7 @@ atomic-returns t c = λ later counted words.
     let n = names_at a in
     let frame = c.args.frame in
     let at = word_at (codes "atomic") c.args.at in
-    let own = here_one (λ p. Site.opens frame.inside_atomic at)
+    let own = here_one {later = later} (λ p. Site.opens frame.inside_atomic at)
     (c.judge_opens-here.ensures n ∙ ap (λ at. judged n (Site.opens frame.inside_atomic at)) c.in_ok-word.ensures) refl counted in
     both own (c.in_ok-below.ensures later counted words) c.sooner.ensures
 
@@ -91,7 +92,7 @@ branch-returns t c = λ later counted words.
     let n = names_at a in
     let condition = tree.expr_view c.args.condition.now in
     let body = tree.block_view c.args.body.now in
-    let own = quiet (λ n sc. expr_sites n sc _ condition) words (c.in_ok-here.ensures later counted) in
+    let own = quiet (λ n sc. expr_sites n sc (want_view c.bool_whole.result) condition) words (c.in_ok-here.ensures later counted) in
     let below = c.in_ok-below.ensures later own.counted (same_words own ∙ words) in
     recast (λ p. expr_sites p.names (quiet_at later p) bool_whole condition ++ spec.block_sites p.names (frame_at later c.args.frame p) p.sight body)
     (λ p. flow.after_block p.names p.sight body)
@@ -123,6 +124,31 @@ otherwise-returns t c = λ later g counted words was alike.
     (ap (λ vs. record { vars = vs; live = (flow.join (sight_of a) end).live }) (both_take c.len-len.result a.vars end.vars (len ∙ same))))
     c.sooner.ensures
 
+pub other-returns-in-Block : goal.other-returns-in-Block
+other-returns-in-Block t c = λ later counted words.
+    let a = c.args.self.now in
+    let n = names_at a in
+    let fr = frame_at later c.args.frame (stand_of a) in
+    let other = tree.maybe_else_view c.args.otherwise.now in
+    let e = ap tree.maybe_else_view c.in-Some.is ∙ ap tree.else_view c.in-Block.is ∙ else_view-Block c.in-Block.block in
+    if_ok c.block.result
+    (λ f w. recast (λ p. spec.else_sites p.names (frame_at later c.args.frame p) p.sight other) (λ p. flow.after_else p.names p.sight other) w
+    (ap (spec.else_sites n fr (sight_of a)) (sym e)) (ap (flow.after_else n (sight_of a)) (sym e)))
+    (c.block.ensures later counted words)
+
+pub other-returns-in-If : goal.other-returns-in-If
+other-returns-in-If t c = λ later counted words.
+    let a = c.args.self.now in
+    let n = names_at a in
+    let fr = frame_at later c.args.frame (stand_of a) in
+    let other = tree.maybe_else_view c.args.otherwise.now in
+    let e = ap tree.maybe_else_view c.in-Some.is ∙ ap tree.else_view c.in-If.is ∙ else_view-If c.in-If.stmt
+    ∙ ap (λ s. ElseTree.else_if (tree.stmt_view s)) (sym c.get.ensures) in
+    if_ok c.stmt.result
+    (λ f w. recast (λ p. spec.else_sites p.names (frame_at later c.args.frame p) p.sight other) (λ p. flow.after_else p.names p.sight other) w
+    (ap (spec.else_sites n fr (sight_of a)) (sym e)) (ap (flow.after_else n (sight_of a)) (sym e)))
+    (c.stmt.ensures later counted words)
+
 pub other-returns-in-None : goal.other-returns-in-None
 other-returns-in-None t c = λ later counted words.
     let a = c.args.self.now in
@@ -130,7 +156,7 @@ other-returns-in-None t c = λ later counted words.
     let fr = frame_at later c.args.frame (stand_of a) in
     recast (λ p. spec.else_sites p.names (frame_at later c.args.frame p) p.sight (tree.maybe_else_view c.args.otherwise.now))
     (λ p. flow.after_else p.names p.sight (tree.maybe_else_view c.args.otherwise.now))
-    (here (λ p. []) refl refl counted)
+    (here {later = later} (λ p. []) refl refl counted)
     (ap (λ o. spec.else_sites n fr (sight_of a) (tree.maybe_else_view o)) (sym c.in-None.is))
     (ap (λ o. flow.after_else n (sight_of a) (tree.maybe_else_view o)) (sym c.in-None.is))
 
@@ -147,11 +173,14 @@ block_arms-returns t c = λ later counted words.
     let known = subst (λ n. option_map (cases_view n) c.cases_of-cases.result ≡ cases_of n kind)
     (sym (ap (λ (p : Stand). p.names) end.stands)) c.cases_of-cases.ensures in
     let own = c.in_ok-own.ensures later kind (sight_of a) listed silent known c.in_ok-before.ensures (ap (λ (p : Stand). p.sight) end.stands) in
-    follows (both (turned end counted) own refl) c.sooner.ensures
+    follows
+    (recast (λ p. spec.arm_sites p.names (frame_at later c.args.frame p) p.sight kind [] arms) (λ p. flow.after_arms p.names p.sight kind arms)
+    (both {before = later} (turned {later = later} end counted) own refl) refl refl)
+    c.sooner.ensures
 
 pub each_block_arm-loop-arm-init : goal.each_block_arm-loop-arm-init
 each_block_arm-loop-arm-init t c = λ later kind g counted words cases was dead.
-    arms_started g (tree.block_arms_view c.args.arms.now) (here (λ p. []) refl refl counted) (no_names c.new-done.ensures) dead
+    arms_started g (tree.block_arms_view c.args.arms.now) (here {later = later} (λ p. []) refl refl counted) (no_names c.new-done.ensures) dead
 
 pub each_block_arm-loop-arm-preserved : goal.each_block_arm-loop-arm-preserved
 each_block_arm-loop-arm-preserved t c = λ later kind g counted words cases was dead.
@@ -239,7 +268,6 @@ stmt-returns-in_ok-first-in-If t c = λ later counted words.
     let a = c.args.self.now in
     let n = names_at a in
     let frame = c.args.frame in
-    let fr = frame_at later frame (stand_of a) in
     let condition = tree.expr_view c.in-If.condition in
     let body = tree.block_view c.in-If.body in
     let other = tree.maybe_else_view c.in-If.otherwise in
@@ -250,8 +278,7 @@ stmt-returns-in_ok-first-in-If t c = λ later counted words.
     (ap tree.stmt_form_view c.in-If.is ∙ stmt_form_view-If c.in-If.condition c.in-If.body c.in-If.otherwise)
     (recast (λ p. spec.stmt_form_sites p.names (frame_at later frame p) p.sight c.args.last c.args.stmt.now.span (StmtForm.if_ condition body other))
     (λ p. flow.after_form p.names p.sight (StmtForm.if_ condition body other)) (both_of first w)
-    (append_assoc (expr_sites n (quiet_at later (stand_of a)) bool_whole condition) (spec.block_sites n fr (sight_of a) body)
-    (spec.else_sites n fr (sight_of a) other)) refl))
+    refl refl))
     (c.otherwise.ensures later (sight_of a) first.counted (same_words first ∙ words) c.in_ok-before-in-If.ensures alike)
 
 pub stmt-returns-in_ok-head-in-Match : goal.stmt-returns-in_ok-head-in-Match
@@ -287,7 +314,7 @@ stmt-returns-in-Assert t c = λ later counted words.
     if_ok c.expr.result
     (λ f w. stmt_formed c.args.frame c.args.last c.args.stmt.now (ap tree.stmt_form_view c.in-Assert.is ∙ stmt_form_view-Assert c.in-Assert.condition)
     (recast (λ p. expr_sites p.names (quiet_at later p) bool_whole condition) (λ p. p.sight)
-    (quiet (λ n sc. expr_sites n sc _ condition) words w)
+    (quiet (λ n sc. expr_sites n sc (want_view c.bool_whole.result) condition) words w)
     (ap (λ w. expr_sites (names_at a) (quiet_at later (stand_of a)) w condition) c.bool_whole.ensures) refl))
     (c.expr.ensures later counted)
 

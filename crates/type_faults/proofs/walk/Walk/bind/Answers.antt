@@ -15,7 +15,7 @@ returns c = λ later counted.
     let fault = c.judge_declares-fault.result in
     let w = c.args.self.now in
     recast (λ p. Site.declares p.sight.vars x ∷ []) (λ p. record p.sight { vars = p.sight.vars ++ bound_var x kind ∷ [] })
-    (both (here_one (λ p. Site.declares p.sight.vars x) c.judge_declares-fault.ensures refl counted)
-    (turned c.in_ok-bring.ensures counted) (sym (sooner_none fault)))
+    (both {before = later} (here_one {later = later} (λ p. Site.declares p.sight.vars x) c.judge_declares-fault.ensures refl counted)
+    (turned {later = later} c.in_ok-bring.ensures counted) (sym (sooner_none fault)))
     refl
     (ap (λ name. record { vars = w.vars ++ (record (bound_var x kind) { name = name }) ∷ []; live = w.live }) c.as_slice.ensures.items)

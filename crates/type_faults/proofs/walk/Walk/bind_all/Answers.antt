@@ -11,7 +11,7 @@ use Rattle.type_faults.proofs.Walked.{same_names}
 use Rattle.type_faults.proofs.walk.Walk.bind_all.Goals as goal
 
 pub loop-place-init : goal.loop-place-init
-loop-place-init c = λ later counted. bound_started counted
+loop-place-init c = λ later counted. bound_started {later = later} counted
 
 pub loop-place-preserved : goal.loop-place-preserved
 loop-place-preserved c = λ later counted.

@@ -1,4 +1,4 @@
-use Rattle.std.proofs.Common.{[], ◌∷◌, ◌++◌, Option, Some, None, false, refl, sym, ap, ap₂, ◌∙◌}
+use Rattle.std.proofs.Common.{◌≡◌, [], ◌∷◌, ◌++◌, Option, Some, None, false, refl, sym, ap, ap₂, ◌∙◌}
 use Rattle.std.specs.Option.{is_some}
 use Rattle.rp_ast.specs.declared.ty.TypeNode.{TypeNode}
 use Rattle.rp_ast.specs.View.{block_view, optional, type_view}
@@ -28,7 +28,7 @@ returns c = λ counted words.
     let frame : Option Kind → Frame = λ kind. record { decl = a.decl; result = kind; inside_atomic = false; later = [] } in
     let live = ap (λ (p : Stand). p.sight.live) inside.stands in
     let m = names_at c.block.new.self in
-    let close = here_one (λ p. Site.closes p.sight.live (is_there result) (brace_of body))
+    let close = here_one {later = []} (λ p. Site.closes p.sight.live (is_there result) (brace_of body))
     (c.judge_closes-close.ensures m
     ∙ ap₂ (λ r at. judged m (Site.closes c.block.new.self.live r at)) (c.is_some.ensures ∙ there_is proc.result) c.brace_of.ensures)
     refl inside.counted in

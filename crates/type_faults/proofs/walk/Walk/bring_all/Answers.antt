@@ -6,7 +6,7 @@ use Rattle.type_faults.proofs.Lists.{next_in}
 use Rattle.type_faults.proofs.walk.Walk.bring_all.Goals as goal
 
 pub loop-param-init : goal.loop-param-init
-loop-param-init c = λ later counted. params_started counted
+loop-param-init c = λ later counted. params_started {later = later} counted
 
 pub loop-param-preserved : goal.loop-param-preserved
 loop-param-preserved c = λ later counted.

@@ -13,7 +13,7 @@ returns c = λ later counted.
     let a = c.args.self.now in
     let param = param_view c.args.param.now in
     recast (λ p. Site.declares p.sight.vars (param_name param) ∷ []) (λ p. record p.sight { vars = p.sight.vars ++ param_var p.names param ∷ [] })
-    (both (here_one (λ p. Site.declares p.sight.vars (param_name param)) c.judge_declares-fault.ensures refl counted)
-    (turned c.in_ok-bring.ensures counted) (sym (sooner_none c.judge_declares-fault.result)))
+    (both {before = later} (here_one {later = later} (λ p. Site.declares p.sight.vars (param_name param)) c.judge_declares-fault.ensures refl counted)
+    (turned {later = later} c.in_ok-bring.ensures counted) (sym (sooner_none c.judge_declares-fault.result)))
     refl
     (ap (λ v. record (sight_of a) { vars = a.vars ++ v ∷ [] }) c.in_ok-var.ensures)

@@ -18,7 +18,7 @@ loop-con-preserved c =
     let i = c.loop-con.con-index in
     let con = c.con-item.result in
     let rest = map con_view (drop (i + 1) cons) in
-    best_next c.loop-con.invariant
+    best_next c.loop-con.best c.in_ok-con.field-0 (first (names_at w) (con_sites w.decl rest)) c.loop-con.invariant
     (next_in (λ l. first (names_at w) (con_sites w.decl (map con_view l))) cons i con c.loop-con-test.true c.con-item.is
     ∙ con_split (names_at w) w.decl (con_view con) rest
     ∙ ap (λ o. sooner o (first (names_at w) (con_sites w.decl rest))) (sym c.in_ok-con.ensures))
@@ -27,5 +27,5 @@ loop-con-preserved c =
 pub returns : goal.returns
 returns c =
     let w = c.args.self.now in
-    best_ended c.loop-con.invariant
+    best_ended c.loop-con.best c.loop-con.invariant
     (ap (λ l. first (names_at w) (con_sites w.decl (map con_view l))) (drop_past c.args.cons.now c.loop-con.con-index c.loop-con-test.false))

@@ -14,10 +14,10 @@ returns c = λ later counted.
     let a = c.args.self.now in
     let x = ident_view c.args.name.now in
     let ty = type_view c.args.ty.now in
-    let declared = here_one (λ p. Site.declares p.sight.vars x) c.judge_declares-declared.ensures refl counted in
-    let written = here_one (λ p. Site.written p.decl role.Variable ty) c.in_ok-written.ensures refl counted in
+    let declared = here_one {later = later} (λ p. Site.declares p.sight.vars x) c.judge_declares-declared.ensures refl counted in
+    let written = here_one {later = later} (λ p. Site.written p.decl role.Variable ty) c.in_ok-written.ensures refl counted in
     recast (λ p. Site.declares p.sight.vars x ∷ Site.written p.decl role.Variable ty ∷ []) (λ p. with_declared p.names p.sight false x ty)
-    (both (both declared written c.sooner.ensures) (turned c.in_ok-bring.ensures counted) (sym (sooner_none c.sooner.result)))
+    (both (both declared written c.sooner.ensures) (turned {later = later} c.in_ok-bring.ensures counted) (sym (sooner_none c.sooner.result)))
     refl
     (ap₂ (λ name k. record (sight_of a) { vars = a.vars ++ (record { name = name; kind = k; set = not a.live; fixed = false }) ∷ [] })
     c.as_slice.ensures.items c.in_ok-kind.ensures)

@@ -7,6 +7,7 @@ use Rattle.type_rules.specs.Sites.{Scope}
 use Rattle.type_rules.specs.TextSites.{used}
 use Rattle.type_tables.specs.Flags.{flag_at}
 use Rattle.text_names.proofs.Entries.{if_ok}
+use Rattle.type_judges.specs.Places.{want_view}
 use Rattle.type_faults.specs.Walks.{names_at}
 use Rattle.type_faults.proofs.Named.{none_new}
 use Rattle.type_faults.proofs.Walked.{same_names}
@@ -22,7 +23,7 @@ returns c = λ behind name marked counted empty.
     (λ f w. record {
       fault_is = w.fault_is ∙ ap (λ w. first n (expr_sites n scope w truth)) c.bool_whole.ensures
           ∙ ap (λ vs. first n (expr_sites n (record scope { vars = vs }) bool_whole truth)) empty;
-      marked = none_new (flag_at a.used) (flag_at c.expr.new.self.used) _ behind marked w.marks;
+      marked = none_new (flag_at a.used) (flag_at c.expr.new.self.used) (used n (expr_sites n scope (want_view c.bool_whole.result) truth)) behind marked w.marks;
       names = same_names w;
       counted = w.counted;
     })

@@ -6,7 +6,7 @@ pub returns : goal.returns
 returns c =
     let w = c.args.self.now in
     record {
-      stands = ap₂ (λ vs l. seeing (stand_of w) (record { vars = vs; live = l })) c.join.ensures c.either.ensures;
+      stands = ap₂ (λ vs l. seeing (stand_of w) (record { vars = vs; live = l })) c.join.ensures c.either-self.ensures;
       later = refl;
       used = refl;
     }

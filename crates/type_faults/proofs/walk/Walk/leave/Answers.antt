@@ -1,4 +1,4 @@
-use Rattle.std.proofs.Common.{[], ◌∷◌, codes, Option, Some, None, refl, sym, ap, ap₂, ◌∙◌}
+use Rattle.std.proofs.Common.{◌≡◌, [], ◌∷◌, codes, Option, Some, None, refl, sym, ap, ap₂, ◌∙◌}
 use Rattle.std.specs.Option.{is_some, unwrap_or}
 use Rattle.rp_ast.specs.declared.expr.ExprNode.{ExprNode}
 use Rattle.rp_ast.specs.View.{expr_view, optional}
@@ -11,6 +11,7 @@ use Rattle.type_rules.specs.Flow.{dead, has_value}
 use Rattle.type_rules.specs.Kinds.{unknown_kind}
 use Rattle.type_rules.specs.ExprSites.{asks}
 use Rattle.type_rules.specs.StmtSites.{is_there, leaving, result_kind, stmt_form_sites, value_sites}
+use Rattle.type_judges.specs.Places.{want_view}
 use Rattle.type_faults.specs.Walks.{frame_at, names_at, quiet_at, stand_of}
 use Rattle.type_faults.proofs.Walked.{both, here_one, quiet, recast, then_turned}
 use Rattle.type_faults.proofs.walk.Walk.leave.Goals as goal
@@ -38,9 +39,9 @@ returns c = λ later counted words.
     let spec_frame = frame_at later frame (stand_of a) in
     let leaves = ap₂ (λ v r. Site.leaves (record (leaving spec_frame last value) { has_value = v; has_result = r }))
     (c.is_some.ensures ∙ value_is c.args.value.now) (c.is_some-2.ensures ∙ there_is frame.result) in
-    let own = here_one (λ p. Site.leaves (leaving (frame_at later frame p) last value) at)
+    let own = here_one {later = later} (λ p. Site.leaves (leaving (frame_at later frame p) last value) at)
     (c.judge_leaves-here.ensures n ∙ ap₂ (λ (site : _ → Site) at. judged n (site at)) leaves c.in_ok-word.ensures) refl counted in
-    let below = quiet (λ n sc. value_sites n sc _ value) words (c.in_ok-below.ensures later counted) in
+    let below = quiet (λ n sc. value_sites n sc (want_view c.asks.result) value) words (c.in_ok-below.ensures later counted) in
     recast (λ p. stmt_form_sites p.names (frame_at later frame p) p.sight last c.args.at (StmtForm.return value)) (λ p. dead p.sight)
     (then_turned (both own below c.sooner.ensures) c.end.ensures)
     (ap (λ w. Site.leaves (leaving spec_frame last value) at ∷ value_sites n (quiet_at later (stand_of a)) w value)

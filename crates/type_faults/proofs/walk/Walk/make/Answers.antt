@@ -19,9 +19,9 @@ returns c = λ later frame counted words.
     let text = c.as_slice-text.ensures.items in
     let listed = subst (λ entries. IsCounted entries later) (sym c.scope.ensures.later) counted in
     let assigned = quiet (λ n sc. Site.assigns sc x ∷ []) words
-    (here_one (λ p. Site.assigns (scope_at later p) x)
+    (here_one {later = later} (λ p. Site.assigns (scope_at later p) x)
     (judged_at (λ sc. Site.assigns sc x) c.scope.ensures.names (c.scope.ensures.scope later) (c.judge_assigns-assigned.ensures later listed)) refl counted) in
-    let made = here_one (λ p. Site.made p.decl (find_var p.sight.vars c.args.name.now.text) ty)
+    let made = here_one {later = later} (λ p. Site.made p.decl (find_var p.sight.vars c.args.name.now.text) ty)
     (c.judge_made-made.ensures ∙ ap (λ v. judged n (Site.made a.decl v ty)) (c.find.ensures ∙ ap (find_var a.vars) text)) refl counted in
     recast (λ p. new_sites (frame_at later frame p) p.sight x ty) (λ p. record p.sight { vars = give c.args.name.now.text p.sight.vars })
     (then_turned (both assigned made c.sooner.ensures) c.give.ensures)

@@ -1,4 +1,4 @@
-use Rattle.std.proofs.Common.{refl}
+use Rattle.std.proofs.Common.{[], ◌∷◌, refl}
 use Rattle.type_tables.specs.Flags.{flag_at}
 use Rattle.type_faults.proofs.Walked.{kept_marks, one_marked}
 use Rattle.type_faults.proofs.walk.Walk.mark_one.Goals as goal
@@ -6,7 +6,7 @@ use Rattle.type_faults.proofs.walk.Walk.mark_one.Goals as goal
 pub returns-then-self : goal.returns-then-self
 returns-then-self c =
     let w = c.args.self.now in
-    record { marked = kept_marks w.words (flag_at w.used) _ c.if-self.true; stands = refl; later = refl }
+    record { marked = kept_marks w.words (flag_at w.used) (c.args.decl ∷ []) c.if-self.true; stands = refl; later = refl }
 
 pub returns : goal.returns
 returns c =

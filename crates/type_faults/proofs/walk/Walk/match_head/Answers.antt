@@ -6,6 +6,7 @@ use Rattle.type_rules.specs.Typing.{type_of}
 use Rattle.type_rules.specs.Faults.{judged}
 use Rattle.type_rules.specs.ExprSites.{expr_sites, matched}
 use Rattle.type_rules.specs.StmtSites.{arm_names}
+use Rattle.type_judges.specs.Places.{want_view}
 use Rattle.type_faults.specs.Walks.{names_at, quiet_at, stand_of}
 use Rattle.type_faults.proofs.Walked.{both, here_one, quiet, recast}
 use Rattle.type_faults.proofs.walk.Walk.match_head.Goals as goal
@@ -18,9 +19,9 @@ returns c = λ later counted words.
     let names = arm_names (block_arms_view c.args.arms.now) in
     let kind = type_of n a.vars None term in
     let at = word_at (codes "match") c.args.at in
-    let own = quiet (λ n sc. expr_sites n sc _ term) words (c.in_ok-here.ensures later counted) in
+    let own = quiet (λ n sc. expr_sites n sc (want_view c.matched.result) term) words (c.in_ok-here.ensures later counted) in
     let m = names_at c.expr.new.self in
-    let word = here_one (λ p. Site.arms at c.in_ok-kind.kind names)
+    let word = here_one {later = later} (λ p. Site.arms at c.in_ok-kind.kind names)
     (c.judge_arms.ensures m names c.in_ok-kind.kind c.in_ok-all.ensures c.cases_of.ensures
     ∙ ap (λ at. judged m (Site.arms at c.in_ok-kind.kind names)) c.in_ok-word.ensures)
     refl own.counted in

@@ -12,6 +12,6 @@ pub returns : goal.returns
 returns c = λ later kind counted cases.
     let n = names_at c.args.self.now in
     let names = arm_names (expr_arms_view c.args.arms.now) in
-    here_one (λ p. Site.arms (word_at (codes "match") c.args.at) kind names)
+    here_one {later = later} (λ p. Site.arms (word_at (codes "match") c.args.at) kind names)
     (c.judge_arms.ensures n names kind c.in_ok-all.ensures cases ∙ ap (λ at. judged n (Site.arms at kind names)) c.in_ok-word.ensures)
     refl counted

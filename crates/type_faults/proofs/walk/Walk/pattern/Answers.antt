@@ -1,4 +1,4 @@
-use Rattle.std.proofs.Common.{[], ◌∷◌, length, refl, sym, ap, ap₂, ◌∙◌}
+use Rattle.std.proofs.Common.{◌≡◌, [], ◌∷◌, length, refl, sym, ap, ap₂, ◌∙◌}
 use Rattle.std.proofs.lemmas.List.{length-map}
 use Rattle.std.specs.Option.{option_map, option_map_or}
 use Rattle.rp_ast.specs.View.{ident_view, idents_view, pattern_view}
@@ -26,7 +26,7 @@ returns c = λ later kind arms counted cases table.
     fields_are n c.case_named-case.result _ (c.case_named-case.ensures n
     ∙ ap₂ (λ cs x. option_map (λ case. case.fields) (case_named cs x)) cases c.as_slice.ensures.items) in
     let many : length slice ≡ length vars = ap length c.as_slice-vars.ensures.items ∙ sym (length-map pattern.vars ident_view) in
-    let own = here_one (λ p. Site.pattern kind arms con (length vars))
+    let own = here_one {later = later} (λ p. Site.pattern kind arms con (length vars))
     (c.judge_pattern-fault.ensures arms kind table cases ∙ ap (λ k. judged n (Site.pattern kind arms con k)) many) refl counted in
     recast (λ p. pattern_sites p.names p.sight.vars kind arms (pattern_view pattern)) (λ p. in_pattern p.names p.sight kind (pattern_view pattern))
     (both own (c.in_ok-below.ensures later counted) c.sooner.ensures)

@@ -12,6 +12,6 @@ returns c = λ later counted.
     let want = want_view c.args.want in
     let e = expr_view c.args.e.now in
     let listed = subst (λ entries. IsCounted entries later) (sym c.scope.ensures.later) counted in
-    placed (λ p. Site.place (scope_at later p) want e)
+    placed {later = later} (λ p. Site.place (scope_at later p) want e)
     (judged_at (λ sc. Site.place sc want e) c.scope.ensures.names (c.scope.ensures.scope later) (c.in_ok-here.ensures later listed))
     (c.in_ok-mark_expr.ensures later) refl counted

@@ -18,6 +18,6 @@ returns c = λ later counted.
     let written = judged_in (λ n. Site.written a.decl role.Quantified (param_type param)) own c.in_ok-written.ensures in
     recast (λ p. quantified_sites (scope_at later p) param)
     (λ p. record p.sight { vars = p.sight.vars ++ quantified_var p.names param ∷ [] })
-    (both own (here_one (λ p. Site.written a.decl role.Quantified (param_type param)) written refl own.counted) c.sooner.ensures)
+    (both own (here_one {later = later} (λ p. Site.written a.decl role.Quantified (param_type param)) written refl own.counted) c.sooner.ensures)
     refl
     (ap (λ k. record (sight_of a) { vars = a.vars ++ bound_var (param_name param) k ∷ [] }) c.in_ok-kind.ensures)

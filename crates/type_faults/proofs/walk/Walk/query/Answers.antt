@@ -20,7 +20,7 @@ returns c = λ counted empty.
     let params = params_view query.params in
     let slice = params_view c.as_slice.result.now in
     let first = c.in_ok-params.ensures [] counted empty in
-    let written = here_one (λ p. Site.written p.decl role.QueryResult ty) c.in_ok-written.ensures refl first.counted in
+    let written = here_one {later = []} (λ p. Site.written p.decl role.QueryResult ty) c.in_ok-written.ensures refl first.counted in
     let kind = c.in_ok-kind.ensures ∙ ap (λ n. kind_of n ty) (same_names first) in
     recast (λ p. query_sites p.names p.decl p.words (query_view query)) (λ p. record p.sight { vars = param_vars p.names params })
     (both first (both written (c.in_ok-body.ensures [] first.counted) c.sooner.ensures) c.sooner-2.ensures)

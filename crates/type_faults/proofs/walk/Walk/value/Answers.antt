@@ -21,5 +21,5 @@ returns-in-None c = λ later counted.
     let a = c.args.self.now in
     let want = want_view c.args.want in
     recast (λ p. value_sites p.names (scope_at later p) want (optional expr_view c.args.value.now)) (λ p. p.sight)
-    (here (λ p. []) refl refl counted)
+    (here {later = later} (λ p. []) refl refl counted)
     (ap (λ o. value_sites (names_at a) (scope_at later (stand_of a)) want (optional expr_view o)) (sym c.in-None.is)) refl

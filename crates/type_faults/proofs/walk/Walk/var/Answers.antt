@@ -7,6 +7,7 @@ use Rattle.type_rules.specs.Kinds.{kind_of}
 use Rattle.type_rules.specs.Flow.{after_form, declared_var, with_declared}
 use Rattle.type_rules.specs.ExprSites.{asks}
 use Rattle.type_rules.specs.StmtSites.{value_sites, var_sites}
+use Rattle.type_judges.specs.Places.{want_view}
 use Rattle.type_faults.specs.Walks.{frame_at, names_at, quiet_at, seeing, sight_of, stand_of}
 use Rattle.type_faults.proofs.Lists.{last_given}
 use Rattle.type_faults.proofs.Walked.{both, quiet, recast, same_names, same_words, then_turned}
@@ -21,7 +22,7 @@ returns-in-Some c = λ later frame counted words.
     let value = optional expr_view c.args.value.now in
     let here = c.in_ok-here.ensures later counted in
     let kind = c.in_ok-kind.ensures ∙ ap (λ n. kind_of n ty) (same_names here) in
-    let below = quiet (λ n sc. value_sites n sc _ value) (same_words here ∙ words) (c.in_ok-below.ensures later here.counted) in
+    let below = quiet (λ n sc. value_sites n sc (want_view c.asks.result) value) (same_words here ∙ words) (c.in_ok-below.ensures later here.counted) in
     let inside = quiet_at later (seeing (stand_of a) (with_declared n (sight_of a) false x ty)) in
     recast (λ p. var_sites p.names (frame_at later frame p) p.sight x ty value) (λ p. after_form p.names p.sight (StmtForm.var x ty value))
     (then_turned (both here below c.sooner.ensures) c.give_last.ensures)
@@ -39,7 +40,7 @@ returns-in-None c = λ later frame counted words.
     let value = optional expr_view c.args.value.now in
     let here = c.in_ok-here.ensures later counted in
     let kind = c.in_ok-kind.ensures ∙ ap (λ n. kind_of n ty) (same_names here) in
-    let below = quiet (λ n sc. value_sites n sc _ value) (same_words here ∙ words) (c.in_ok-below.ensures later here.counted) in
+    let below = quiet (λ n sc. value_sites n sc (want_view c.asks.result) value) (same_words here ∙ words) (c.in_ok-below.ensures later here.counted) in
     let inside = quiet_at later (seeing (stand_of a) (with_declared n (sight_of a) false x ty)) in
     recast (λ p. var_sites p.names (frame_at later frame p) p.sight x ty value) (λ p. after_form p.names p.sight (StmtForm.var x ty value))
     (both here below c.sooner-in-None.ensures)
