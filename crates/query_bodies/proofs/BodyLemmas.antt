@@ -1,5 +1,5 @@
 -- The bodies of queries at their places.
-use Rattle.std.proofs.Common.{◌≡◌, ℕ, zero, suc, ◌≤◌, List, [], ◌∷◌, ◌++◌, map, length, Option, Some, None, slice_get, option_map, unwrap_or, refl, sym, ap, ◌∙◌, arith}
+use Rattle.std.proofs.Common.{◌≡◌, ℕ, zero, suc, ◌≤◌, List, [], ◌∷◌, ◌++◌, map, length, Option, Some, None, slice_get, option_map, unwrap_or, refl, ap, ◌∙◌, arith}
 use Rattle.std.proofs.lemmas.List.{map_push, length-map}
 use Rattle.query_bodies.specs.declared.bodies.Bodies.{Bodies}
 use Rattle.query_bodies.specs.declared.bodies.QueryBody.{QueryBody}

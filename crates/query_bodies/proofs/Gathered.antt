@@ -3,8 +3,8 @@ use Rattle.std.proofs.Common.{◌≡◌, ℕ, zero, suc, ◌+◌, ◌<◌, ◌�
 use Rattle.std.proofs.lemmas.List.{length-map, map_more, map_push, take_all, take_more}
 use Rattle.desugaring.specs.Parts.{both, each}
 use Rattle.rp_lang.specs.declared.expr.Expr.{Expr}
-use Rattle.rp_lang.specs.Exprs.{Ex, Exs, also_ex}
-use Rattle.rp_lang.specs.Formulas.{Fo, Fos, also_fo, Arms, also_arm}
+use Rattle.rp_lang.specs.Exprs.{Ex, also_ex}
+use Rattle.rp_lang.specs.Formulas.{Fo, also_fo, also_arm}
 use Rattle.rp_lang.specs.Views as made
 use Rattle.rp_lang.specs.declared.formula.Arm.{Arm}
 use Rattle.rp_lang.proofs.FormulaViews.{arm_view-parts}

@@ -1,5 +1,5 @@
 -- Where more arguments are there, as much is made.
-use Rattle.std.proofs.Common.{◌≡◌, ℕ, zero, suc, ◌+◌, ◌<◌, ◌==◌, Bool, true, false, List, Option, Some, None, if◌then◌else◌, option_map, option_and_then, refl, sym, ap, subst, ◌∙◌, arith, eqb-true}
+use Rattle.std.proofs.Common.{◌≡◌, ℕ, zero, suc, ◌+◌, ◌<◌, ◌==◌, Bool, true, false, Option, Some, None, if◌then◌else◌, option_map, option_and_then, refl, sym, ap, ◌∙◌, arith, eqb-true}
 use Rattle.rp_lang.specs.Exprs as ex
 use Rattle.rp_lang.specs.Exprs.{Ex, Exs, also_ex}
 use Rattle.rp_lang.specs.Formulas as fo

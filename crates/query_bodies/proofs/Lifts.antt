@@ -1,5 +1,5 @@
 -- What each variant is under several binders more.
-use Rattle.std.proofs.Common.{◌≡◌, ℕ, ℤ, zero, suc, ◌+◌, List, refl, sym, ap, ◌∙◌, arith}
+use Rattle.std.proofs.Common.{◌≡◌, ℕ, ℤ, zero, suc, ◌+◌, List, refl, ap, ◌∙◌, arith}
 use Rattle.rp_lang.specs.Exprs as ex
 use Rattle.rp_lang.specs.Exprs.{Ex, Exs, no_ex, also_ex}
 use Rattle.desugaring.specs.Values.{lifted, all_lifted}

@@ -1,5 +1,5 @@
 -- The code's shortened uses.
-use Rattle.std.proofs.Common.{◌≡◌, ℕ, ◌+◌, ◌<◌, ◌≤◌, List, [], ◌∷◌, ◌++◌, length, Option, Some, None, Ok, Err, Result, IfOk, IfSome, slice_get, option_map, refl, sym, ap, subst, ◌∙◌, arith, zero, suc}
+use Rattle.std.proofs.Common.{◌≡◌, ℕ, ◌<◌, List, [], ◌∷◌, ◌++◌, length, Option, Some, None, Ok, Err, Result, IfOk, IfSome, slice_get, option_map, refl, sym, ap, subst, ◌∙◌, arith, zero, suc}
 use Rattle.query_bodies.specs.declared.term.Term.{Term}
 use Rattle.query_bodies.specs.declared.claim.Claim.{Claim}
 use Rattle.query_bodies.specs.Terms as te

@@ -1,5 +1,5 @@
 -- A use becomes its query's body with the arguments put in.
-use Rattle.std.proofs.Common.{◌≡◌, ℕ, ◌<◌, Option, Some, option_map, option_and_then, refl, sym, ap, ◌∙◌}
+use Rattle.std.proofs.Common.{◌≡◌, ℕ, ◌<◌, Some, option_map, option_and_then, sym, ap, ◌∙◌}
 use Rattle.rp_lang.specs.Exprs.{Ex}
 use Rattle.rp_lang.specs.Formulas.{Fo}
 use Rattle.desugaring.specs.Values as values

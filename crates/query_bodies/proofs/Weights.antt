@@ -1,5 +1,5 @@
 -- Numbers that fall at each step of an expansion.
-use Rattle.std.proofs.Common.{◌≡◌, ℕ, zero, suc, ◌+◌, ◌*◌, ◌<◌, ◌≤◌, ◌==◌, Bool, true, false, List, [], ◌∷◌, length, get_or, Option, Some, None, refl, sym, ap, ◌∙◌, arith, eqb-true}
+use Rattle.std.proofs.Common.{◌≡◌, ℕ, zero, suc, ◌+◌, ◌*◌, ◌<◌, ◌≤◌, ◌==◌, Bool, true, false, List, [], ◌∷◌, length, get_or, Option, Some, None, refl, ap, ◌∙◌, arith, eqb-true}
 use Rattle.query_bodies.specs.declared.term.Term.{Term}
 use Rattle.query_bodies.specs.declared.claim.Claim.{Claim}
 use Rattle.query_bodies.specs.declared.claim.ClaimArm.{ClaimArm}

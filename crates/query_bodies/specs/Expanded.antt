@@ -1,5 +1,5 @@
 -- What terms and formulas become with all uses of queries put in.
-use Rattle.std.specs.Prelude.{◌≡◌, ℕ, zero, suc, ◌+◌, ◌-◌, ◌==◌, List, [], ◌∷◌, length, map, Option, Some, None, option_map, option_and_then, slice_get, unwrap_or, if◌then◌else◌}
+use Rattle.std.specs.Prelude.{◌≡◌, ℕ, zero, suc, ◌+◌, ◌-◌, ◌==◌, List, [], ◌∷◌, length, Option, Some, None, option_map, option_and_then, slice_get, unwrap_or, if◌then◌else◌}
 use Rattle.rp_lang.specs.Exprs as ex
 use Rattle.rp_lang.specs.Exprs.{Ex, Exs, no_ex, also_ex}
 use Rattle.rp_lang.specs.Formulas as fo

@@ -1,5 +1,5 @@
 -- How large terms and formulas get with all uses put in, told without putting them in.
-use Rattle.std.specs.Prelude.{◌≡◌, ℕ, zero, suc, ◌+◌, ◌*◌, max, min, nat_lt, Bool, true, false, ◌||◌, List, [], ◌∷◌, ◌++◌, map, Option, Some, None, option_map, slice_get, slice_set, unwrap_or, replicate, if◌then◌else◌}
+use Rattle.std.specs.Prelude.{ℕ, ◌+◌, ◌*◌, max, min, nat_lt, true, false, ◌||◌, List, Option, Some, None, slice_get, slice_set, unwrap_or, replicate, if◌then◌else◌}
 use Rattle.query_bodies.specs.declared.bodies.Facts.{Facts}
 use Rattle.query_bodies.specs.declared.bodies.Standing.{Standing}
 use Rattle.query_bodies.specs.Terms as te

@@ -1,4 +1,4 @@
-use Rattle.std.proofs.Common.{◌≡◌, Some, ap, sym, subst, rules, ◌∙◌}
+use Rattle.std.proofs.Common.{◌≡◌, Some, ap, sym, subst, ◌∙◌}
 use Rattle.query_bodies.specs.declared.term.Term.{Term}
 use Rattle.query_bodies.specs.declared.term.Body.{Body}
 use Rattle.query_bodies.specs.declared.claim.Claim.{Claim}

@@ -1,4 +1,4 @@
-use Rattle.std.proofs.Common.{◌≡◌, ℕ, ◌+◌, ◌*◌, ◌<◌, List, Option, Some, map, option_map, refl, sym, ap, subst, ◌∙◌, arith, rules}
+use Rattle.std.proofs.Common.{◌≡◌, ℕ, ◌+◌, List, Option, Some, map, option_map, refl, sym, ap, subst, ◌∙◌, arith}
 use Rattle.rp_lang.specs.declared.expr.Expr.{Expr}
 use Rattle.rp_lang.specs.declared.formula.Formula.{Formula}
 use Rattle.rp_lang.specs.Formulas as fo
