@@ -4,6 +4,7 @@ pub mod BodyLemmas
 pub mod Lifts
 pub mod Arms
 pub mod Grows
+pub mod Places
 pub mod Weights
 pub mod Gathered
 pub mod Shortened

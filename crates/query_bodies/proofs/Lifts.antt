@@ -1,5 +1,5 @@
 -- What each variant is under several binders more.
-use Rattle.std.proofs.Common.{◌≡◌, ℕ, ℤ, zero, suc, ◌+◌, List, refl, ap, ◌∙◌, arith}
+use Rattle.std.proofs.Common.{◌≡◌, ℕ, ℤ, zero, suc, ◌+◌, List, refl, sym, ap, ◌∙◌, arith}
 use Rattle.rp_lang.specs.Exprs as ex
 use Rattle.rp_lang.specs.Exprs.{Ex, Exs, no_ex, also_ex}
 use Rattle.desugaring.specs.Values.{lifted, all_lifted}
@@ -84,5 +84,8 @@ lifted_by-ResultWith (suc n) proc e = ap lifted (lifted_by-ResultWith n proc e)
 pub lifted_by-Unreturned : (n : ℕ) → lifted_by n (ex.Unreturned) ≡ ex.Unreturned
 lifted_by-Unreturned zero = refl
 lifted_by-Unreturned (suc n) = ap lifted (lifted_by-Unreturned n)
+
+pub as_lifted : (n : ℕ) (whole node after z : Ex) → z ≡ after → lifted_by n node ≡ after → whole ≡ node → z ≡ lifted_by n whole
+as_lifted n whole node after z made is was = made ∙ sym is ∙ ap (lifted_by n) (sym was)
 
 pub ruleset lifts = (lifted_by-Slot, lifted_by-Bound, lifted_by-Int, lifted_by-Str, lifted_by-Con, lifted_by-Query, lifted_by-OpTerm, lifted_by-InfoTerm, lifted_by-Plus, lifted_by-Add, lifted_by-Sub, lifted_by-OpOf, lifted_by-OriginOf, lifted_by-InfoOf, lifted_by-ResultOf, lifted_by-ResultTerm, lifted_by-ResultWith, lifted_by-Unreturned)

@@ -1,5 +1,5 @@
 -- The code's shortened uses.
-use Rattle.std.proofs.Common.{◌≡◌, ℕ, ◌<◌, List, [], ◌∷◌, ◌++◌, length, Option, Some, None, Ok, Err, Result, IfOk, IfSome, slice_get, option_map, refl, sym, ap, subst, ◌∙◌, arith, zero, suc}
+use Rattle.std.proofs.Common.{◌≡◌, ℕ, ◌<◌, List, Option, Some, None, Ok, Err, Result, IfOk, IfSome, slice_get, option_map, sym, ap, subst, ◌∙◌}
 use Rattle.query_bodies.specs.declared.term.Term.{Term}
 use Rattle.query_bodies.specs.declared.claim.Claim.{Claim}
 use Rattle.query_bodies.specs.Terms as te
@@ -102,16 +102,3 @@ pub found_then : {E : Type 0} (r : Result (Option Term) E) (P Q : Term → Type 
 found_then (Ok None) P Q then_ h = h
 found_then (Ok (Some e)) P Q then_ h = then_ e h
 found_then (Err e) P Q then_ h = h
-
--- # The term at a place
-
-pub last_there : (xs : List Term) (x : Term) (p : ℕ) → length xs ≡ p → slice_get (xs ++ x ∷ []) p ≡ Some x
-last_there [] x zero e = refl
-last_there [] x (suc p) e = absurd cc
-last_there (y ∷ xs) x zero e = absurd cc
-last_there (y ∷ xs) x (suc p) e = last_there xs x p (omega (arith, e))
-
-pub before_last : (xs : List Term) (x : Term) (p : ℕ) → p < length xs → slice_get (xs ++ x ∷ []) p ≡ slice_get xs p
-before_last [] x p lt = absurd (omega (arith, lt))
-before_last (y ∷ xs) x zero lt = refl
-before_last (y ∷ xs) x (suc p) lt = before_last xs x p (omega (arith, lt))

@@ -18,6 +18,7 @@ use rp_value::{Boxed, List, Memory};
 #[tactic(auto, using(crate::proofs::ClaimViews::claim_views, rp_lang::proofs::FormulaViews::formula_views))]
 impl<'b> Expansion<'b> {
     /// Both sides of a comparison.
+    #[tactic(auto)]
     fn sides(
         &self,
         given: &[Option<Expr>],

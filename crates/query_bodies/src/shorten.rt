@@ -1,7 +1,7 @@
 //! Uses of queries that only hand on to another, which are shortened: so chains of uses nest no deeper
 //! than what they make.
 
-ghost use Rattle.std.specs.Prelude.{◌≡◌, ◌<◌, IfOk, IfSome, Some, slice_get};
+ghost use Rattle.std.specs.Prelude.{◌≡◌, ◌<◌, IfOk, IfSome, Some, slice_get, take};
 ghost use Rattle.std.specs.Option.{option_map};
 ghost use Rattle.query_bodies.specs.Expanded.{IsUse};
 ghost use Rattle.query_bodies.specs.means.Putting.{ArePut, IsPut, IsSame, IsUseOf};
@@ -149,19 +149,33 @@ pub fn use_of(alloc: Global, bodies: &Bodies, decl: u32, args: List<Term>) -> Re
     }
 }
 
+/// Lets go all but the first elements.
+fn keep<T: Drop>(items: &mut List<T>, n: u32)
+    ensures { items.new ≡ take n items.old }
+{
+    while items.count() > n {
+        items.pop();
+    }
+}
+
+/// The element at a place. The others are let go.
+fn taken<T: Drop>(items: List<T>, place: u32) -> Option<T>
+    ensures { result ≡ slice_get items place }
+{
+    if items.count() <= place {
+        return None;
+    }
+    let mut items = items;
+    keep(&mut items, place + 1);
+    items.pop()
+}
+
 /// The term at a place.
 fn nth(terms: List<Term>, place: u32) -> Result<Term, Memory>
     ensures { IfOk result (λ term. option_map term_view (slice_get terms place) ≡ Some
         (term_view term)) }
 {
-    let mut terms = terms;
-    'longer: while terms.count() > place.saturating_add(1) {
-        let _ = terms.pop();
-    }
-    if terms.count() <= place {
-        return Err(Memory);
-    }
-    match terms.pop() {
+    match taken(terms, place) {
         Some(term) => Ok(term),
         None => Err(Memory),
     }
