@@ -1,5 +1,5 @@
 -- Variables of a pattern and parameters, one behind another.
-use Rattle.std.proofs.Common.{◌≡◌, ℕ, ◌+◌, List, [], ◌∷◌, ◌++◌, drop, Option, Some, None, refl, sym, ap, ap₂, ◌∙◌, subst, append_assoc, append-nil}
+use Rattle.std.proofs.Common.{◌≡◌, ℕ, ◌+◌, List, [], ◌∷◌, ◌++◌, drop, Option, Some, None, refl, sym, ap, ap₂, ◌∙◌, append_assoc, append-nil}
 use Rattle.rp_grammar.specs.Trees.{Ident, ParamTree}
 use Rattle.type_rules.specs.declared.kind.Kind.{Kind}
 use Rattle.type_rules.specs.declared.fault.Fault.{Fault}
@@ -15,7 +15,7 @@ use Rattle.type_terms.specs.Views.{fields_of}
 use Rattle.type_rules.specs.Faults.{sooner}
 use Rattle.type_tables.specs.Counts.{IsCounted}
 use Rattle.type_faults.specs.declared.walk.Walk.{Walk}
-use Rattle.type_faults.specs.Walks.{Stand, Walks, names_at, seeing, sight_of, stand_of}
+use Rattle.type_faults.specs.Walks.{Stand, Walks, names_at, sight_of, stand_of}
 use Rattle.type_faults.proofs.Lists.{other_drop}
 use Rattle.type_faults.proofs.Walked.{both, here, recast}
 

@@ -1,10 +1,10 @@
 -- Declarations from the last to the first.
-use Rattle.std.proofs.Common.{◌≡◌, ℕ, ◌+◌, List, [], ◌∷◌, ◌++◌, Option, None, refl, sym, ap, ap₂, ◌∙◌, subst}
+use Rattle.std.proofs.Common.{◌≡◌, ℕ, ◌+◌, List, [], ◌∷◌, ◌++◌, Option, None, sym, ap, ap₂, ◌∙◌, subst}
 use Rattle.rp_span.specs.declared.Span.{Span}
 use Rattle.rp_grammar.specs.Trees.{DeclForm, DeclTree}
 use Rattle.type_rules.specs.declared.fault.Fault.{Fault}
 use Rattle.type_rules.specs.Names.{Names}
-use Rattle.type_rules.specs.TextSites.{inner_sites, is_number_of, used_from}
+use Rattle.type_rules.specs.TextSites.{inner_sites, used_from}
 use Rattle.type_rules.specs.Faults.{first, sooner}
 use Rattle.type_rules.proofs.Order.{first_append}
 use Rattle.type_tables.specs.Counts.{IsCounted}

@@ -1,13 +1,13 @@
 -- Variables and their values, where ways part and meet.
-use Rattle.std.proofs.Common.{◌≡◌, ℕ, zero, suc, Bool, true, false, not, ◌&&◌, ◌||◌, None, List, [], ◌∷◌, ◌++◌, length, map, take, refl, sym, ap, ap₂, ◌∙◌, append-nil, append_assoc, true≢false}
+use Rattle.std.proofs.Common.{◌≡◌, ℕ, Bool, true, false, not, ◌&&◌, ◌||◌, None, List, [], ◌∷◌, ◌++◌, length, map, take, refl, sym, ap, ap₂, ◌∙◌, append-nil, append_assoc, true≢false}
 use Rattle.std.specs.Prelude.{if◌then◌else◌}
 use Rattle.std.proofs.lemmas.List.{length-map, map-append, take-map}
-use Rattle.rp_grammar.specs.Trees.{Ident, BlockTree, StmtTree, StmtForm, StmtTrees, ElseTree, BlockArmTree, BlockArmTrees}
+use Rattle.rp_grammar.specs.Trees.{BlockTree, StmtTree, StmtForm, StmtTrees, ElseTree, BlockArmTree, BlockArmTrees}
 use Rattle.type_rules.specs.declared.kind.Kind.{Kind}
 use Rattle.type_rules.specs.Names.{Name, Names, same_name, text_of}
 use Rattle.type_rules.specs.Accesses.{Var}
 use Rattle.type_rules.specs.Typing.{type_of}
-use Rattle.type_rules.specs.Matches.{pattern_kinds, pattern_name, pattern_vars, with_bound}
+use Rattle.type_rules.specs.Matches.{pattern_kinds, pattern_name, pattern_vars}
 use Rattle.type_rules.specs.Flow.{Sight, after, after_arm, after_arms, after_block, after_else, after_form, after_stmts, both as both_vars, dead, declared_var, give, has_value, in_pattern, join, with_value}
 use Rattle.type_tables.specs.Variables.{set_flags, with_flags, and_flags}
 use Rattle.type_faults.specs.declared.blocks.Flow as code_flow

@@ -1,5 +1,5 @@
 -- Statements, arms and ways that meet.
-use Rattle.std.proofs.Common.{◌≡◌, ℕ, suc, zero, ◌+◌, ◌-◌, ◌<◌, Bool, true, false, ◌||◌, nat_eq, List, [], ◌∷◌, ◌++◌, length, drop, Option, None, refl, sym, ap, ap₂, ◌∙◌, subst, append_assoc, append-nil, arith, length-drop}
+use Rattle.std.proofs.Common.{◌≡◌, ℕ, ◌+◌, ◌-◌, ◌<◌, Bool, ◌||◌, nat_eq, List, [], ◌∷◌, ◌++◌, length, drop, Option, None, refl, sym, ap, ap₂, ◌∙◌, subst, append_assoc, append-nil, arith, length-drop}
 use Rattle.std.proofs.lemmas.Bool.Decides.{nat_tests}
 use Rattle.rp_grammar.specs.Trees.{StmtTree, StmtForm, StmtTrees, BlockArmTree, BlockArmTrees, ExprArmTree, ExprArmTrees}
 use Rattle.rp_ast.specs.declared.stmt.StmtNode.{StmtNode}
@@ -17,7 +17,7 @@ use Rattle.type_rules.specs.StmtSites.{arm_sites, block_sites, declared_in, is_l
 use Rattle.type_rules.specs.Faults.{sooner}
 use Rattle.type_tables.specs.Counts.{IsCounted}
 use Rattle.type_tables.specs.Tables.{Entries, number_in, with_first}
-use Rattle.type_tables.specs.Variables.{set_flags, with_flags, and_flags}
+use Rattle.type_tables.specs.Variables.{with_flags, and_flags}
 use Rattle.type_terms.specs.Views.{IsTableOf}
 use Rattle.type_faults.specs.declared.walk.Walk.{Walk}
 use Rattle.type_faults.specs.declared.blocks.Flow as code_flow

@@ -10,12 +10,12 @@ use Rattle.type_rules.specs.Sites.{Scope, Site}
 use Rattle.type_rules.specs.Flow.{Sight}
 use Rattle.type_rules.specs.Faults.{first, judged, sooner}
 use Rattle.type_rules.specs.TextSites.{is_number_of, used, used_at, used_by, used_in}
-use Rattle.type_rules.proofs.Order.{assoc, first_append, sooner_none}
+use Rattle.type_rules.proofs.Order.{first_append, sooner_none}
 use Rattle.type_tables.specs.Counts.{IsCounted}
 use Rattle.type_tables.specs.Flags.{flag_at, with_flag}
 use Rattle.type_tables.specs.Marks.{with_marks}
 use Rattle.type_faults.specs.declared.walk.Walk.{Walk}
-use Rattle.type_faults.specs.Walks.{Follows, Marks, Stand, Turns, Walks, accessed_in, names_at, quiet_at, scope_at, seeing, sight_of, stand_of}
+use Rattle.type_faults.specs.Walks.{Follows, Marks, Stand, Turns, Walks, accessed_in, names_at, quiet_at, scope_at, seeing, stand_of}
 
 -- # Marks
 

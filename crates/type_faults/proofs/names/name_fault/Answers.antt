@@ -1,7 +1,6 @@
-use Rattle.std.proofs.Common.{[], ◌∷◌, ap, sym, ◌∙◌}
+use Rattle.std.proofs.Common.{ap, sym, ◌∙◌}
 use Rattle.std.specs.Option.{is_some}
 use Rattle.rp_ast.specs.View.{ident_view}
-use Rattle.type_rules.specs.Names.{is_among}
 use Rattle.type_rules.specs.Sites.{Site}
 use Rattle.type_rules.specs.Faults.{judged}
 use Rattle.type_rules.proofs.Order.{sooner_none}

@@ -1,5 +1,5 @@
-use Rattle.std.proofs.Common.{sym, ap, ◌∙◌, subst, ◌∷◌, drop, ◌+◌}
-use Rattle.rp_ast.specs.View.{expr_arm_view, expr_arms_view}
+use Rattle.std.proofs.Common.{ap, ◌∙◌, subst, drop, ◌+◌}
+use Rattle.rp_ast.specs.View.{expr_arms_view}
 use Rattle.rp_ast.proofs.ExprViews.{expr_arm_view-parts}
 use Rattle.rp_grammar.specs.Trees.{ExprArmTrees}
 use Rattle.type_rules.specs.ExprSites.{arm_names}

@@ -1,6 +1,5 @@
-use Rattle.std.proofs.Common.{◌≡◌, drop}
+use Rattle.std.proofs.Common.{drop}
 use Rattle.rp_ast.specs.View.{expr_arms_view}
-use Rattle.type_rules.specs.Names.{Name, is_among}
 use Rattle.type_rules.specs.ExprSites.{arm_names}
 use Rattle.type_faults.proofs.Lists.{TableSo}
 use Rattle.type_faults.proofs.patterns.arm_table.Given as goal

@@ -1,4 +1,4 @@
-use Rattle.std.proofs.Common.{map, refl, sym, ap, ap₂, ◌∙◌, subst, append-nil}
+use Rattle.std.proofs.Common.{map, sym, ap, ap₂, ◌∙◌, subst, append-nil}
 use Rattle.rp_ast.specs.View.{con_view, decl_form_view, expr_view, ident_view}
 use Rattle.type_rules.specs.Names.{con_name}
 use Rattle.type_rules.specs.DeclSites.{named_all}

@@ -1,12 +1,10 @@
-use Rattle.std.proofs.Common.{[], ◌∷◌, ◌+◌, None, refl, sym, ap, ap₂, ◌∙◌, drop}
-use Rattle.rp_grammar.specs.Trees.{CrdtForm, CrdtTree, FieldTrees}
-use Rattle.rp_ast.specs.View.{crdt_view, crdt_form_view, field_view, fields_view, type_view}
-use Rattle.rp_ast.proofs.TypeViews.{crdt_view-parts, crdt_form_view-SetAw, crdt_form_view-SetRw, crdt_form_view-Reg, crdt_form_view-MvReg, crdt_form_view-Counter, crdt_form_view-MapUw, crdt_form_view-MapDw, crdt_form_view-Struct, field_view-parts}
-use Rattle.type_rules.specs.declared.role.Role.TheVariants as role
-use Rattle.type_rules.specs.Sites.{Site}
-use Rattle.type_rules.specs.DeclSites.{crdt_form_sites, crdt_sites, field_names, fields_sites, named_all}
-use Rattle.type_rules.specs.Faults.{first, judged, sooner}
-use Rattle.type_rules.proofs.Order.{first_append, sooner_none}
+use Rattle.std.proofs.Common.{[], ◌+◌, refl, sym, ap, ap₂, ◌∙◌, drop}
+use Rattle.rp_grammar.specs.Trees.{FieldTrees}
+use Rattle.rp_ast.specs.View.{crdt_view, crdt_form_view, fields_view, type_view}
+use Rattle.rp_ast.proofs.TypeViews.{crdt_form_view-SetAw, crdt_form_view-SetRw, crdt_form_view-Reg, crdt_form_view-MvReg, crdt_form_view-Counter, crdt_form_view-MapUw, crdt_form_view-MapDw, crdt_form_view-Struct, field_view-parts}
+use Rattle.type_rules.specs.DeclSites.{crdt_sites, field_names, fields_sites, named_all}
+use Rattle.type_rules.specs.Faults.{first, sooner}
+use Rattle.type_rules.proofs.Order.{first_append}
 use Rattle.text_names.proofs.Entries.{drop_past, if_ok}
 use Rattle.type_faults.specs.Walks.{names_at}
 use Rattle.type_faults.proofs.Lists.{next_in}

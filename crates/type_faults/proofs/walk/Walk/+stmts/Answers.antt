@@ -1,18 +1,18 @@
-use Rattle.std.proofs.Common.{◌≡◌, [], ◌∷◌, ◌++◌, ◌+◌, codes, length, true, false, None, take, drop, refl, sym, ap, ap₂, ◌∙◌, subst, append_assoc}
+use Rattle.std.proofs.Common.{◌≡◌, [], ◌∷◌, ◌++◌, ◌+◌, codes, length, None, take, drop, refl, sym, ap, ap₂, ◌∙◌, subst, append_assoc}
 use Rattle.std.proofs.lemmas.List.{length-map}
 use Rattle.std.specs.Option.{option_map}
-use Rattle.rp_grammar.specs.Trees.{BlockTree, StmtForm, ElseTree}
+use Rattle.rp_grammar.specs.Trees.{StmtForm, ElseTree}
 use Rattle.rp_ast.specs.declared.stmt.ElseNode.TheViews.{out-Block, out-BlockArm}
 use Rattle.rp_ast.specs.View as tree
 use Rattle.rp_ast.proofs.StmtViews.{block_view-parts, block_arm_view-parts, else_view-Block, else_view-If, stmt_form_view-Var, stmt_form_view-New, stmt_form_view-Assign, stmt_form_view-Access, stmt_form_view-If, stmt_form_view-Match, stmt_form_view-Atomic, stmt_form_view-Assert, stmt_form_view-Return}
 use Rattle.type_rules.specs.Sites.{Site}
 use Rattle.type_rules.specs.Starts.{word_at}
 use Rattle.type_rules.specs.Typing.{type_of}
-use Rattle.type_rules.specs.Matches.{cases_of, pattern_kinds, pattern_name, pattern_vars}
+use Rattle.type_rules.specs.Matches.{cases_of}
 use Rattle.type_rules.specs.Flow as flow
 use Rattle.type_rules.specs.Flow.{Sight, in_pattern}
 use Rattle.type_tables.specs.Counts.{IsCounted}
-use Rattle.type_rules.specs.ExprSites.{access_sites, bool_whole, expr_sites, matched, pattern_sites}
+use Rattle.type_rules.specs.ExprSites.{access_sites, bool_whole, expr_sites, matched}
 use Rattle.type_rules.specs.Faults.{judged}
 use Rattle.type_rules.specs.StmtSites as spec
 use Rattle.type_tables.specs.Tables.{number_in, with_first}
@@ -20,10 +20,10 @@ use Rattle.type_terms.specs.Views.{cases_view}
 use Rattle.text_names.proofs.Entries.{drop_past, if_ok}
 use Rattle.type_faults.specs.Flows.{bare}
 use Rattle.type_judges.specs.Places.{want_view}
-use Rattle.type_faults.specs.Walks.{Stand, Walks, arm_own_sites, frame_at, names_at, quiet_at, scope_at, seeing, sight_of, stand_of}
+use Rattle.type_faults.specs.Walks.{Stand, Walks, arm_own_sites, frame_at, names_at, quiet_at, sight_of, stand_of}
 use Rattle.type_faults.proofs.Meeting.{ArmsWalked, StmtsWalked, arm_name, arms_alike, arms_ended, arms_next, arms_started, counted_own, last_is, met, stmt_formed, stmts_ended, stmts_next, stmts_started}
 use Rattle.type_faults.proofs.Flows.{arm_keeps, block_keeps, both_take, else_begins, left_bare, sight_back}
-use Rattle.type_faults.proofs.Lists.{bound_gone, next_in, no_names}
+use Rattle.type_faults.proofs.Lists.{next_in, no_names}
 use Rattle.type_faults.proofs.Walked.{both, both_of, follows, here, here_one, quiet, recast, same_names, same_words, then_turned, turned}
 use Rattle.type_faults.proofs.walk.Walk.+stmts.Goals as goal
 

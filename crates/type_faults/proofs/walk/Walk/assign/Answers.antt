@@ -1,4 +1,4 @@
-use Rattle.std.proofs.Common.{[], ◌∷◌, ◌++◌, refl, sym, ap, ◌∙◌, subst}
+use Rattle.std.proofs.Common.{[], ◌∷◌, refl, sym, ap, ◌∙◌, subst}
 use Rattle.rp_ast.specs.View.{expr_view, ident_view}
 use Rattle.type_rules.specs.Accesses.{find_var}
 use Rattle.type_rules.specs.Sites.{Site}

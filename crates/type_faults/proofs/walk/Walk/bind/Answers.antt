@@ -3,9 +3,7 @@ use Rattle.rp_ast.specs.View.{ident_view}
 use Rattle.type_rules.specs.Sites.{Site}
 use Rattle.type_rules.specs.Matches.{bound_var}
 use Rattle.type_rules.proofs.Order.{sooner_none}
-use Rattle.type_rules.specs.Accesses.{Var}
 use Rattle.type_faults.proofs.Walked.{both, here_one, recast, turned}
-use Rattle.type_faults.specs.Walks.{Stand}
 use Rattle.type_faults.proofs.walk.Walk.bind.Goals as goal
 
 pub returns : goal.returns

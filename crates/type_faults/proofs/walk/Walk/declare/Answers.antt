@@ -1,11 +1,10 @@
-use Rattle.std.proofs.Common.{[], ◌∷◌, ◌++◌, false, not, refl, sym, ap, ap₂, ◌∙◌}
+use Rattle.std.proofs.Common.{[], ◌∷◌, ◌++◌, false, not, refl, sym, ap₂}
 use Rattle.rp_ast.specs.View.{ident_view, type_view}
 use Rattle.type_rules.specs.declared.role.Role.TheVariants as role
-use Rattle.type_rules.specs.Accesses.{Var}
 use Rattle.type_rules.specs.Sites.{Site}
 use Rattle.type_rules.specs.Flow.{with_declared}
 use Rattle.type_rules.proofs.Order.{sooner_none}
-use Rattle.type_faults.specs.Walks.{names_at, sight_of}
+use Rattle.type_faults.specs.Walks.{sight_of}
 use Rattle.type_faults.proofs.Walked.{both, here_one, recast, turned}
 use Rattle.type_faults.proofs.walk.Walk.declare.Goals as goal
 

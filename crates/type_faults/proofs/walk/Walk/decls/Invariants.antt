@@ -1,4 +1,4 @@
-use Rattle.std.proofs.Common.{◌≡◌, ◌-◌, [], drop, length}
+use Rattle.std.proofs.Common.{◌-◌, [], drop}
 use Rattle.rp_ast.specs.View.{decls_view}
 use Rattle.type_tables.specs.Counts.{IsCounted}
 use Rattle.type_tables.specs.Marks.{IsMarked}

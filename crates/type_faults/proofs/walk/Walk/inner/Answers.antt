@@ -1,6 +1,6 @@
-use Rattle.std.proofs.Common.{[], None, refl, sym, ap, ◌∙◌, subst, map}
-use Rattle.rp_ast.specs.View.{con_view, crdt_view, decl_form_view, expr_view, ident_view, optional, proc_view, query_view}
-use Rattle.type_rules.specs.DeclSites.{con_sites, crdt_sites}
+use Rattle.std.proofs.Common.{None, refl, sym, ap, ◌∙◌, subst, map}
+use Rattle.rp_ast.specs.View.{con_view, decl_form_view, ident_view, optional}
+use Rattle.type_rules.specs.DeclSites.{con_sites}
 use Rattle.type_rules.specs.Faults.{first}
 use Rattle.text_names.proofs.Entries.{if_ok}
 use Rattle.type_faults.specs.Texts.{Enters}

@@ -1,4 +1,4 @@
-use Rattle.std.proofs.Common.{[], true, refl, sym, ap, ◌∙◌}
+use Rattle.std.proofs.Common.{[], true, ap, ◌∙◌}
 use Rattle.rp_ast.specs.View.{expr_view}
 use Rattle.type_rules.specs.Faults.{first}
 use Rattle.type_rules.specs.DeclSites.{scope_for}

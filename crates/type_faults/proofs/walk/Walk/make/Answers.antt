@@ -6,7 +6,7 @@ use Rattle.type_rules.specs.Faults.{judged}
 use Rattle.type_rules.specs.Flow.{give}
 use Rattle.type_rules.specs.StmtSites.{new_sites}
 use Rattle.type_tables.specs.Counts.{IsCounted}
-use Rattle.type_faults.specs.Walks.{frame_at, names_at, quiet_at, scope_at, sight_of}
+use Rattle.type_faults.specs.Walks.{frame_at, names_at, scope_at, sight_of}
 use Rattle.type_faults.proofs.Walked.{both, here_one, judged_at, quiet, recast, then_turned}
 use Rattle.type_faults.proofs.walk.Walk.make.Goals as goal
 

@@ -1,4 +1,4 @@
-use Rattle.std.proofs.Common.{[], ◌∷◌, ◌++◌, codes, None, refl, sym, ap, ap₂, ◌∙◌}
+use Rattle.std.proofs.Common.{[], ◌∷◌, ◌++◌, codes, None, refl, ap, ap₂, ◌∙◌}
 use Rattle.rp_ast.specs.View.{block_arms_view, expr_view}
 use Rattle.type_rules.specs.Sites.{Site}
 use Rattle.type_rules.specs.Starts.{word_at}

@@ -1,12 +1,11 @@
-use Rattle.std.proofs.Common.{[], ◌++◌, append_assoc, map, refl, sym, ap, ◌∙◌}
+use Rattle.std.proofs.Common.{[], ◌++◌, append_assoc, map, sym, ap, ◌∙◌}
 use Rattle.rp_ast.specs.View.{params_view}
 use Rattle.type_rules.specs.Names.{param_name}
 use Rattle.type_rules.specs.DeclSites.{declares_all, named_all, param_sites, written_all}
 use Rattle.type_rules.specs.Queries.{param_vars}
-use Rattle.type_rules.specs.Faults.{first}
 use Rattle.type_faults.specs.Walks.{names_at, sight_of}
 use Rattle.type_faults.proofs.Named.{named_unused, written_unused}
-use Rattle.type_faults.proofs.Walked.{both, here, recast, same_names}
+use Rattle.type_faults.proofs.Walked.{both, here, recast}
 use Rattle.type_faults.proofs.walk.Walk.params.Goals as goal
 
 pub returns : goal.returns

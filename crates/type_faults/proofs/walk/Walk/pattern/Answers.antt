@@ -4,7 +4,7 @@ use Rattle.std.specs.Option.{option_map, option_map_or}
 use Rattle.rp_ast.specs.View.{ident_view, idents_view, pattern_view}
 use Rattle.type_rules.specs.Sites.{Site}
 use Rattle.type_rules.specs.Flow.{in_pattern}
-use Rattle.type_rules.specs.Matches.{bound_sites, case_named, pattern_kinds, pattern_name, with_bound}
+use Rattle.type_rules.specs.Matches.{bound_sites, case_named, pattern_kinds, with_bound}
 use Rattle.type_rules.specs.ExprSites.{pattern_sites}
 use Rattle.type_rules.specs.Faults.{judged}
 use Rattle.type_terms.specs.Views.{fields_of}

@@ -1,12 +1,11 @@
-use Rattle.std.proofs.Common.{[], ◌∷◌, ◌++◌, refl, sym, ap, ◌∙◌}
+use Rattle.std.proofs.Common.{[], ◌∷◌, ◌++◌, refl, ap}
 use Rattle.rp_ast.specs.View.{param_view}
 use Rattle.type_rules.specs.declared.role.Role.TheVariants as role
 use Rattle.type_rules.specs.Names.{param_name, param_type}
 use Rattle.type_rules.specs.Sites.{Site}
 use Rattle.type_rules.specs.Matches.{bound_var}
 use Rattle.type_rules.specs.ExprSites.{quantified_sites, quantified_var}
-use Rattle.type_rules.specs.Faults.{judged}
-use Rattle.type_faults.specs.Walks.{names_at, scope_at, seeing, sight_of, stand_of}
+use Rattle.type_faults.specs.Walks.{scope_at, sight_of}
 use Rattle.type_faults.proofs.Walked.{both, here_one, judged_in, recast}
 use Rattle.type_faults.proofs.walk.Walk.quantify.Goals as goal
 

@@ -1,4 +1,4 @@
-use Rattle.std.proofs.Common.{[], not, refl, sym, ap, ◌∙◌}
+use Rattle.std.proofs.Common.{not, ap, ◌∙◌}
 use Rattle.rp_ast.specs.View.{query_view}
 use Rattle.type_rules.specs.DeclSites.{query_sites}
 use Rattle.type_rules.specs.Faults.{first}

@@ -1,4 +1,4 @@
-use Rattle.std.proofs.Common.{[], ◌∷◌, ◌++◌, true, false, not, refl, sym, ap, ◌∙◌}
+use Rattle.std.proofs.Common.{◌∷◌, false, not, sym, ap, ◌∙◌}
 use Rattle.rp_ast.specs.View.{expr_view, ident_view, optional, type_view}
 use Rattle.rp_grammar.specs.Trees.{StmtForm}
 use Rattle.type_rules.specs.declared.role.Role.TheVariants as role
