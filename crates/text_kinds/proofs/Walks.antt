@@ -1,0 +1,75 @@
+-- Walks that bring datatypes one after the other.
+use Rattle.std.proofs.Common.{◌≡◌, ℕ, zero, suc, ◌+◌, ◌<◌, List, [], ◌∷◌, ◌++◌, length, get_or, drop, map, take, Some, refl, sym, ap, ap₂, ◌∙◌, arith}
+use Rattle.std.proofs.lemmas.List.{append_assoc, drop_more}
+use Rattle.type_rules.specs.declared.kind.Kind.{Kind}
+use Rattle.type_rules.specs.Names.{Names}
+use Rattle.type_rules.specs.Accesses.{Var}
+use Rattle.type_rules.specs.Matches.{first_kind, other_kinds}
+use Rattle.text_kinds.specs.Numbered.{Numbered, numbered, with_each, with_kinds}
+use Rattle.text_kinds.specs.means.Brought.{Seen, seeing, sought}
+use Rattle.text_kinds.specs.means.Walked.{Gains, Goes}
+use Rattle.text_kinds.proofs.KindsAdded.{each_both}
+
+pub kinds_both : (ks js : List Kind) (t : Numbered) → with_kinds (ks ++ js) t ≡ with_kinds js (with_kinds ks t)
+kinds_both ks js t = ap (numbered t.names) (each_both ks js t.kinds)
+
+pub sought_both : (s : Seen) (ks js : List Kind) → sought s (ks ++ js) ≡ sought (sought s ks) js
+sought_both s ks js = ap (λ t. record s { kinds = t }) (kinds_both ks js s.kinds)
+
+-- a part that was walked before another
+pub both_sought : (a b c : Seen) (f g : Names → List Var → List Kind) → b ≡ sought a (f a.kinds.names a.vars)
+    → c ≡ sought b (g b.kinds.names b.vars) → c ≡ sought a (f a.kinds.names a.vars ++ g a.kinds.names a.vars)
+both_sought a b c f g one other =
+    other ∙ ap (λ (s : Seen). sought s (g s.kinds.names s.vars)) one
+    ∙ sym (sought_both a (f a.kinds.names a.vars) (g a.kinds.names a.vars))
+
+pub goes_start : (s : Seen) (whole : List Kind) → Goes s s whole whole
+goes_start s whole = record { vars = refl; names = refl; comes = refl }
+
+pub goes_on : (start now new : Seen) (rest next whole : List Kind) (f : Names → List Var → List Kind) → Goes start now rest whole
+    → rest ≡ f start.kinds.names start.vars ++ next → new ≡ sought now (f now.kinds.names now.vars) → Goes start new next whole
+goes_on start now new rest next whole f goes parts is =
+    let one : List Kind = f now.kinds.names now.vars in
+    let same : f now.kinds.names now.vars ≡ f start.kinds.names start.vars = ap₂ f goes.names goes.vars in
+    record {
+      vars = ap (λ (s : Seen). s.vars) is ∙ goes.vars;
+      names = ap (λ (s : Seen). s.kinds.names) is ∙ goes.names;
+      comes = ap (λ (s : Seen). with_kinds next s.kinds) is
+          ∙ sym (kinds_both (f now.kinds.names now.vars) next now.kinds)
+          ∙ ap (λ ks. with_kinds (ks ++ next) now.kinds) same
+          ∙ ap (λ ks. with_kinds ks now.kinds) (sym parts)
+          ∙ goes.comes;
+    }
+
+pub goes_end : (start now : Seen) (whole : List Kind) → Goes start now [] whole → now ≡ sought start whole
+goes_end start now whole goes = ap₂ (λ vs t. record { vars = vs; kinds = t }) goes.vars goes.comes
+
+pub gains_start : (s : Seen) (whole : List Kind) (all : List Var) → Gains s s whole whole all all
+gains_start s whole all = record { vars = refl; names = refl; comes = refl }
+
+pub gains_on : (start now new : Seen) (rest one next whole : List Kind) (seen later all : List Var) → Gains start now rest whole seen all
+    → rest ≡ one ++ next → seen ≡ later → new.kinds ≡ with_kinds one now.kinds → Gains start new next whole later all
+gains_on start now new rest one next whole seen later all gains parts vars is = record {
+  vars = sym vars ∙ gains.vars;
+  names = ap (λ (t : Numbered). t.names) is ∙ gains.names;
+  comes = ap (with_kinds next) is ∙ sym (kinds_both one next now.kinds) ∙ ap (λ ks. with_kinds ks now.kinds) (sym parts) ∙ gains.comes;
+}
+
+pub gains_end : (start now : Seen) (whole : List Kind) (all : List Var) → Gains start now [] whole now.vars all → now ≡ seeing (sought start whole) all
+gains_end start now whole all gains = ap₂ (λ vs t. record { vars = vs; kinds = t }) gains.vars gains.comes
+
+-- # Lists that are gone through
+
+pub other_dropped : (ks : List Kind) (i : ℕ) → other_kinds (drop i ks) ≡ drop (i + 1) ks
+other_dropped [] zero = let plus : 1 ≡ 0 + 1 = omega arith in ap (λ m. drop m []) plus
+other_dropped [] (suc i) = let plus : suc (i + 1) ≡ suc i + 1 = omega arith in ap (λ m. drop m []) plus
+other_dropped (k ∷ ks) zero = let plus : 1 ≡ 0 + 1 = omega arith in ap (λ m. drop m (k ∷ ks)) plus
+other_dropped (k ∷ ks) (suc i) =
+    let plus : suc (i + 1) ≡ suc i + 1 = omega arith in other_dropped ks i ∙ ap (λ m. drop m (k ∷ ks)) plus
+
+pub rest_is : {X : Type 0} (xs : List X) (i : ℕ) (x : X) → i < length xs → x ≡ get_or xs i x → drop i xs ≡ x ∷ drop (i + 1) xs
+rest_is xs i x h e = drop_more xs i x h ∙ ap (λ y. y ∷ drop (i + 1) xs) (sym e)
+
+pub left_seen : (vs more : List Var) → take (length vs) (vs ++ more) ≡ vs
+left_seen [] more = refl
+left_seen (v ∷ vs) more = ap (λ ws. v ∷ ws) (left_seen vs more)
