@@ -187,3 +187,13 @@ adds_next f xs i x start old new h e done next =
     ∙ flat_map-append (f start.names) (take i xs) (x ∷ [])
     ∙ ap (λ z. flat_map (f start.names) (take i xs) ++ z) (append-nil (f start.names x)) in
     subst (λ ks. Adds ks start new) (sym all) (adds_both (flat_map (f start.names) (take i xs)) (f start.names x) start old new done one)
+
+pub flat_two : {X Y Z : Type 0} (g : Z → List Kind) (h : Y → Z) (v : X → Y) (xs : List X) → flat_map g (map h (map v xs)) ≡ flat_map (λ x. g (h (v x))) xs
+flat_two g h v [] = refl
+flat_two g h v (x ∷ xs) = ap (λ z. g (h (v x)) ++ z) (flat_two g h v xs)
+
+pub flat_flat : {X Y : Type 0} (g : Kind → List Kind) (k : Y → List Kind) (v : X → Y) (xs : List X)
+    → flat_map g (flat_map k (map v xs)) ≡ flat_map (λ x. flat_map g (k (v x))) xs
+flat_flat g k v [] = refl
+flat_flat g k v (x ∷ xs) =
+    flat_map-append g (k (v x)) (flat_map k (map v xs)) ∙ ap (λ z. flat_map g (k (v x)) ++ z) (flat_flat g k v xs)

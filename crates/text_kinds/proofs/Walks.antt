@@ -73,3 +73,20 @@ rest_is xs i x h e = drop_more xs i x h ∙ ap (λ y. y ∷ drop (i + 1) xs) (sy
 pub left_seen : (vs more : List Var) → take (length vs) (vs ++ more) ≡ vs
 left_seen [] more = refl
 left_seen (v ∷ vs) more = ap (λ ws. v ∷ ws) (left_seen vs more)
+
+-- # Tables alone
+
+pub both_kinds : (a b c : Numbered) (f g : Names → List Kind) → b ≡ with_kinds (f a.names) a → c ≡ with_kinds (g b.names) b
+    → c ≡ with_kinds (f a.names ++ g a.names) a
+both_kinds a b c f g one other =
+    other ∙ ap (λ (t : Numbered). with_kinds (g t.names) t) one ∙ sym (kinds_both (f a.names) (g a.names) a)
+
+pub names_on : (start old new : Numbered) (f : Names → List Kind) → old.names ≡ start.names → new ≡ with_kinds (f old.names) old → new.names ≡ start.names
+names_on start old new f names is = ap (λ (t : Numbered). t.names) is ∙ names
+
+pub kinds_on : (start old new : Numbered) (rest next whole : List Kind) (f : Names → List Kind) → old.names ≡ start.names
+    → with_kinds rest old ≡ with_kinds whole start → rest ≡ f start.names ++ next → new ≡ with_kinds (f old.names) old
+    → with_kinds next new ≡ with_kinds whole start
+kinds_on start old new rest next whole f names comes parts is =
+    ap (with_kinds next) is ∙ sym (kinds_both (f old.names) next old)
+    ∙ ap (λ n. with_kinds (f n ++ next) old) names ∙ ap (λ ks. with_kinds ks old) (sym parts) ∙ comes

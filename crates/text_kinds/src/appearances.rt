@@ -86,6 +86,23 @@ impl<'n, 'a> Seeker<'n, 'a> {
         self.vars.truncate(len);
     }
 
+    /// What the left side of a comparison is asked.
+    fn left_asked(&self, op: CompareOp, left: &ExprNode, right: &ExprNode) -> Result<Option<Kind>, Memory>
+        ensures { IfOk result (λ asked. asked ≡ (spec.left_want (names_view self.now.kinds.names.now) self.now.vars op
+            (tree.expr_view left.now) (tree.expr_view right.now)).asked) }
+    {
+        let want = left_want(self.kinds.names(), &self.vars, op, left, right)?;
+        Ok(want.asked)
+    }
+
+    fn right_asked(&self, op: CompareOp, left: &ExprNode, right: &ExprNode) -> Result<Option<Kind>, Memory>
+        ensures { IfOk result (λ asked. asked ≡ (spec.right_want (names_view self.now.kinds.names.now) self.now.vars op
+            (tree.expr_view left.now) (tree.expr_view right.now)).asked) }
+    {
+        let want = right_want(self.kinds.names(), &self.vars, op, left, right)?;
+        Ok(want.asked)
+    }
+
     /// Adds what an expression brings whose place asks this type.
     #[cycle(exprs)]
     pub(crate) fn expr(&mut self, asked: Option<Kind>, e: &'a ExprNode) -> Result<(), Memory>
@@ -94,19 +111,27 @@ impl<'n, 'a> Seeker<'n, 'a> {
     {
         match &e.what {
             ExprForm::Implies(left, right) => {
-                self.two(Some(BOOL_KIND), left.get(), Some(BOOL_KIND), right.get())
+                self.expr(Some(BOOL_KIND), left.get())?;
+                self.expr(Some(BOOL_KIND), right.get())
             }
             ExprForm::Or(operands) => self.operands(operands.as_slice()),
             ExprForm::And(operands) => self.operands(operands.as_slice()),
             ExprForm::Not(operand) => self.expr(Some(BOOL_KIND), operand.get()),
             ExprForm::Forall(param, body) => self.quantified(param.get(), body.get()),
             ExprForm::Exists(param, body) => self.quantified(param.get(), body.get()),
-            ExprForm::Compare(op, left, right) => self.compared(*op, left.get(), right.get()),
+            ExprForm::Compare(op, left, right) => {
+                let first = self.left_asked(*op, left.get(), right.get())?;
+                let second = self.right_asked(*op, left.get(), right.get())?;
+                self.expr(first, left.get())?;
+                self.expr(second, right.get())
+            }
             ExprForm::Plus(left, right) => {
-                self.two(Some(INT_KIND), left.get(), Some(INT_KIND), right.get())
+                self.expr(Some(INT_KIND), left.get())?;
+                self.expr(Some(INT_KIND), right.get())
             }
             ExprForm::Minus(left, right) => {
-                self.two(Some(INT_KIND), left.get(), Some(INT_KIND), right.get())
+                self.expr(Some(INT_KIND), left.get())?;
+                self.expr(Some(INT_KIND), right.get())
             }
             ExprForm::Int(_) => Ok(()),
             ExprForm::Str(_) => Ok(()),
@@ -127,38 +152,6 @@ impl<'n, 'a> Seeker<'n, 'a> {
             }
             ExprForm::Access(access) => self.access(access.get()),
         }
-    }
-
-    #[cycle(exprs)]
-    fn two(
-        &mut self,
-        first: Option<Kind>,
-        left: &'a ExprNode,
-        second: Option<Kind>,
-        right: &'a ExprNode,
-    ) -> Result<(), Memory>
-        ensures { OnOk result (seen self.new ≡ sought (seen self.old) (means.expr_brings (names_view self.old.kinds.names.now) self.old.vars first
-            (tree.expr_view left.now)
-            ++ means.expr_brings (names_view self.old.kinds.names.now) self.old.vars second (tree.expr_view right.now))) }
-    {
-        self.expr(first, left)?;
-        self.expr(second, right)
-    }
-
-    /// The sides of a comparison.
-    #[cycle(exprs)]
-    fn compared(&mut self, op: CompareOp, left: &'a ExprNode, right: &'a ExprNode) -> Result<(), Memory>
-        ensures { OnOk result (seen self.new ≡ sought (seen self.old) (means.expr_brings (names_view self.old.kinds.names.now) self.old.vars
-            (spec.left_want (names_view self.old.kinds.names.now) self.old.vars op (tree.expr_view left.now) (tree.expr_view right.now)).asked
-            (tree.expr_view left.now)
-            ++ means.expr_brings (names_view self.old.kinds.names.now) self.old.vars
-            (spec.right_want (names_view self.old.kinds.names.now) self.old.vars op (tree.expr_view left.now) (tree.expr_view right.now)).asked
-            (tree.expr_view right.now))) }
-    {
-        let names = self.kinds.names();
-        let first = left_want(names, &self.vars, op, left, right)?;
-        let second = right_want(names, &self.vars, op, left, right)?;
-        self.two(first.asked, left, second.asked, right)
     }
 
     /// The operands of a chain.

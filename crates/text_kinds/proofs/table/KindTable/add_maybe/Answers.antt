@@ -1,10 +1,9 @@
 use Rattle.std.proofs.Common.{List, [], ◌∷◌, ◌++◌, ap, sym, subst, ◌∙◌}
-use Rattle.std.proofs.lemmas.Bool.{not-false}
 use Rattle.type_rules.specs.declared.kind.Kind.{Kind}
 use Rattle.type_tables.proofs.Seen.{not_failed}
 use Rattle.text_names.specs.Declarations.{names_view}
 use Rattle.text_kinds.specs.declared.numbers.Numbers.{Numbers}
-use Rattle.text_kinds.specs.means.Rows.{AreRows, is_next}
+use Rattle.text_kinds.specs.means.Rows.{AreRows, is_next, with_row}
 use Rattle.text_kinds.proofs.RowsKept.{rows_maybe}
 use Rattle.text_kinds.proofs.table.KindTable.add_maybe.Goals as goal
 
@@ -17,10 +16,10 @@ invariant_of-self-2 c =
     let put = not_failed c.put.result c.if-is_err.ensures.value c.put.ensures.ok in
     record {
       rows = subst (λ (maybes : List (List Numbers)). AreRows n c.push.new.self c.in_ok-cons.cons table.own.items maybes) (sym put)
-          (subst (λ (kinds : List Kind). AreRows n kinds c.in_ok-cons.cons table.own.items _) (sym c.in_ok-push.ensures.ok)
+          (subst (λ (kinds : List Kind). AreRows n kinds c.in_ok-cons.cons table.own.items (with_row table.maybes.items place c.next-numbers.result)) (sym c.in_ok-push.ensures.ok)
           (rows_maybe n table.kinds table.cons c.in_ok-cons.cons table.own.items table.maybes.items c.args.base c.args.held place kind c.next-numbers.result
           table.rows (sym c.place_of.ensures ∙ c.in-Some-place_of.is)
-          (ap (λ rows. is_next rows place c.args.held) (sym c.as_slice.ensures.value) ∙ sym c.is_next.ensures ∙ not-false _ c.if-not-is_next.false)
+          (ap (λ rows. is_next rows place c.args.held) (sym c.as_slice.ensures.value) ∙ sym c.is_next.ensures ∙ c.if-not-is_next.false)
           (ap (λ m. record { base = c.args.base; maybes = m }) c.in-Some.ensures.1)
           (sym c.has.ensures ∙ c.if-has.false) c.next-numbers.ensures c.in_ok-cons.ensures));
     }
