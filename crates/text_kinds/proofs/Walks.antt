@@ -90,3 +90,20 @@ pub kinds_on : (start old new : Numbered) (rest next whole : List Kind) (f : Nam
 kinds_on start old new rest next whole f names comes parts is =
     ap (with_kinds next) is ∙ sym (kinds_both (f old.names) next old)
     ∙ ap (λ n. with_kinds (f n ++ next) old) names ∙ ap (λ ks. with_kinds ks old) (sym parts) ∙ comes
+
+-- a part whose trees are seen otherwise
+pub part_sought : (a b : Seen) (f g : Names → List Var → List Kind) → f a.kinds.names a.vars ≡ g a.kinds.names a.vars
+    → b ≡ sought a (f a.kinds.names a.vars) → b ≡ sought a (g a.kinds.names a.vars)
+part_sought a b f g same is = is ∙ ap (sought a) same
+
+pub both_as : (a b c : Seen) (f g : Names → List Var → List Kind) (whole : List Kind) → b ≡ sought a (f a.kinds.names a.vars)
+    → c ≡ sought b (g b.kinds.names b.vars) → whole ≡ f a.kinds.names a.vars ++ g a.kinds.names a.vars → c ≡ sought a whole
+both_as a b c f g whole one other same = both_sought a b c f g one other ∙ ap (sought a) (sym same)
+
+-- behind a part in which more variables were in sight
+pub left_sought : (a b c d : Seen) (vs more : List Var) (f : Names → List Var → List Kind) → vs ≡ a.vars ++ more → b ≡ seeing a vs
+    → c ≡ sought b (f b.kinds.names b.vars) → d ≡ seeing c (take (length a.vars) c.vars) → d ≡ sought a (f a.kinds.names vs)
+left_sought a b c d vs more f long bound brought gone =
+    gone
+    ∙ ap (λ (s : Seen). seeing s (take (length a.vars) s.vars)) (brought ∙ ap (λ (s : Seen). sought s (f s.kinds.names s.vars)) bound)
+    ∙ ap (seeing (sought a (f a.kinds.names vs))) (ap (take (length a.vars)) long ∙ left_seen a.vars more)

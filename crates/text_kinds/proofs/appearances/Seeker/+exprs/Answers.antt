@@ -1,4 +1,16 @@
-use Rattle.std.proofs.Common.{◌≡◌, ◌+◌, ◌++◌, List, [], ◌∷◌, Some, drop, take, ap, sym, ◌∙◌}
+use Rattle.std.proofs.Common.{◌≡◌, ◌+◌, ◌++◌, List, [], ◌∷◌, Option, None, Some, drop, length, refl, take, ap, ap₂, sym, ◌∙◌}
+use Rattle.rp_ast.specs.declared.expr.AccessStep.{AccessStep}
+use Rattle.rp_ast.specs.View.{expr_form_view, param_view, pattern_view, step_view, steps_view}
+use Rattle.rp_ast.proofs.ExprViews.{expr_arm_view-parts, expr_form_view-Compare, expr_form_view-Exists, expr_form_view-Forall, expr_form_view-Implies, expr_form_view-Match, expr_form_view-Minus, expr_form_view-Plus, expr_form_view-SomeOf, expr_view-parts}
+use Rattle.rp_grammar.specs.Trees.{ExprArmTree, ExprForm}
+use Rattle.type_rules.specs.Kinds.{int_kind}
+use Rattle.type_rules.specs.Accesses.{args_of}
+use Rattle.type_rules.specs.Matches.{first_kind, pattern_kinds, pattern_name, pattern_vars}
+use Rattle.type_rules.specs.ExprSites.{left_want, right_want, word_args}
+use Rattle.type_terms.specs.Views.{access_view, way_view}
+use Rattle.text_kinds.specs.means.Brought.{args_bring, behind_pattern, form_brings, key_brings, steps_bring}
+use Rattle.text_kinds.proofs.Bare.{bound_more}
+use Rattle.text_kinds.proofs.Walks.{both_as, left_sought, other_dropped}
 use Rattle.rp_ast.specs.declared.expr.ExprNode.{ExprNode}
 use Rattle.rp_ast.specs.declared.expr.ExprArm.{ExprArm}
 use Rattle.rp_ast.specs.View.{expr_arm_view, expr_arms_view, expr_view, exprs_view}
@@ -8,7 +20,7 @@ use Rattle.type_rules.specs.Kinds.{bool_kind}
 use Rattle.type_rules.specs.Accesses.{Var}
 use Rattle.text_names.specs.Declarations.{names_view}
 use Rattle.text_names.proofs.Placed.{on_ok}
-use Rattle.text_kinds.specs.means.Brought.{arms_bring, expr_brings, arm_brings, operands_bring}
+use Rattle.text_kinds.specs.means.Brought.{arms_bring, expr_brings, arm_brings, operands_bring, sought}
 use Rattle.text_kinds.specs.means.Walked.{seen}
 use Rattle.text_kinds.proofs.Walks.{goes_on, rest_is}
 use Rattle.text_kinds.proofs.appearances.Seeker.+exprs.Goals as goal
@@ -26,3 +38,111 @@ operands-loop-operand-preserved t c =
     c.loop-operand.invariant
     (ap (λ (xs : List ExprNode). operands_bring n start.vars (exprs_view xs)) (rest_is es i x c.loop-operand-test.true c.operand-item.is))
     c.in_ok-expr.ensures
+
+pub arms-loop-arm-preserved : goal.arms-loop-arm-preserved
+arms-loop-arm-preserved t c =
+    let start = c.args.self.now in
+    let n = names_view start.kinds.names.now in
+    let arms = c.args.arms.now in
+    let i = c.loop-arm.arm-index in
+    let x = c.arm-item.result in
+    let f : Names → List Var → List Kind = λ m vs. arm_brings m vs c.args.kind (expr_arm_view x) in
+    goes_on (seen start) (seen c.loop-arm.self) (seen c.arm.new.self)
+    (arms_bring n start.vars c.args.kind (expr_arms_view (drop i arms))) (arms_bring n start.vars c.args.kind (expr_arms_view (drop (i + 1) arms)))
+    (arms_bring n start.vars c.args.kind (expr_arms_view arms)) f c.loop-arm.invariant
+    (ap (λ (xs : List ExprArm). arms_bring n start.vars c.args.kind (expr_arms_view xs)) (rest_is arms i x c.loop-arm-test.true c.arm-item.is))
+    c.in_ok-arm.ensures
+
+pub arm-returns : goal.arm-returns
+arm-returns t c =
+    let start = c.args.self.now in
+    let n = names_view start.kinds.names.now in
+    let p = pattern_view c.args.arm.now.pattern in
+    let vs = behind_pattern n start.vars c.args.kind p in
+    let more = bound_more start.vars (pattern_vars p) (pattern_kinds n c.args.kind (pattern_name p)) in
+    let f : Names → List Var → List Kind = λ m ws. expr_brings m ws (Some bool_kind) (expr_view c.args.arm.now.body) in
+    left_sought (seen start) (seen c.bind_all.new.self) (seen c.expr.new.self) (seen c.leave.new.self) vs more.0 f more.1
+    c.in_ok-bind_all.ensures c.in_ok-expr.ensures
+    (c.leave.ensures ∙ ap (λ len. record { vars = take len c.expr.new.self.vars; kinds = (seen c.expr.new.self).kinds }) c.len-len.ensures)
+    ∙ ap (λ arm. record (seen start) { kinds = (sought (seen start) (arm_brings n start.vars c.args.kind arm)).kinds }) (sym (expr_arm_view-parts c.args.arm.now))
+
+pub args-loop-place-preserved : goal.args-loop-place-preserved
+args-loop-place-preserved t c =
+    let start = c.args.self.now in
+    let old = c.loop-place.self in
+    let n = names_view start.kinds.names.now in
+    let args = c.args.args.now in
+    let i = c.loop-place.place in
+    let x = c.index-args-place.result in
+    let ks : Names → List Kind = λ m. args_of m (access_view m c.args.what) in
+    let f : Names → List Var → List Kind = λ m vs. expr_brings m vs (Some (first_kind (drop i (ks m)))) (expr_view x) in
+    goes_on (seen start) (seen old) (seen c.expr.new.self)
+    (args_bring n start.vars (drop i (ks n)) (exprs_view (drop i args))) (args_bring n start.vars (drop (i + 1) (ks n)) (exprs_view (drop (i + 1) args)))
+    (args_bring n start.vars (ks n) (exprs_view args)) f c.loop-place.invariant
+    (ap (λ (xs : List ExprNode). args_bring n start.vars (drop i (ks n)) (exprs_view xs)) (rest_is args i x c.loop-place-test.true c.index-args-place.is)
+    ∙ ap (λ js. f n start.vars ++ args_bring n start.vars js (exprs_view (drop (i + 1) args))) (other_dropped (ks n) i))
+    (c.in_ok-expr.ensures ∙ ap (λ k. sought (seen old) (expr_brings (names_view old.kinds.names.now) old.vars (Some k) (expr_view x)))
+    (c.in_ok-kind.ensures ∙ ap (λ m. first_kind (drop i (args_of m (access_view m c.args.what)))) (ap names_view c.names.ensures)))
+
+pub expr-returns-in_ok-expr-in-Implies : goal.expr-returns-in_ok-expr-in-Implies
+expr-returns-in_ok-expr-in-Implies t c =
+    let start = seen c.args.self.now in
+    let mid = seen c.expr.new.self in
+    let l = c.in-Implies.left in
+    let r = c.in-Implies.right in
+    on_ok c.expr-in-Implies.result
+    (λ e. both_as start mid (seen c.expr-in-Implies.new.self)
+    (λ m vs. expr_brings m vs (Some bool_kind) (expr_view l)) (λ m vs. expr_brings m vs (Some bool_kind) (expr_view r)) _
+    (c.in_ok-expr-in-Implies.ensures ∙ ap (λ (x : ExprNode). sought start (expr_brings start.kinds.names start.vars (Some bool_kind) (expr_view x))) c.get.ensures)
+    (e ∙ ap (λ (x : ExprNode). sought mid (expr_brings mid.kinds.names mid.vars (Some bool_kind) (expr_view x))) c.get-in-Implies.ensures)
+    (ap (expr_brings start.kinds.names start.vars c.args.asked) (expr_view-parts c.args.e.now)
+    ∙ ap (form_brings start.kinds.names start.vars c.args.asked) (ap expr_form_view c.in-Implies.is ∙ expr_form_view-Implies l r)))
+    c.expr-in-Implies.ensures
+
+pub expr-returns-in_ok-expr-in-Plus : goal.expr-returns-in_ok-expr-in-Plus
+expr-returns-in_ok-expr-in-Plus t c =
+    let start = seen c.args.self.now in
+    let mid = seen c.expr-in-Plus.new.self in
+    let l = c.in-Plus.left in
+    let r = c.in-Plus.right in
+    on_ok c.expr-in-Plus-2.result
+    (λ e. both_as start mid (seen c.expr-in-Plus-2.new.self)
+    (λ m vs. expr_brings m vs (Some int_kind) (expr_view l)) (λ m vs. expr_brings m vs (Some int_kind) (expr_view r)) _
+    (c.in_ok-expr-in-Plus.ensures ∙ ap (λ (x : ExprNode). sought start (expr_brings start.kinds.names start.vars (Some int_kind) (expr_view x))) c.get-in-Plus.ensures)
+    (e ∙ ap (λ (x : ExprNode). sought mid (expr_brings mid.kinds.names mid.vars (Some int_kind) (expr_view x))) c.get-in-Plus-2.ensures)
+    (ap (expr_brings start.kinds.names start.vars c.args.asked) (expr_view-parts c.args.e.now)
+    ∙ ap (form_brings start.kinds.names start.vars c.args.asked) (ap expr_form_view c.in-Plus.is ∙ expr_form_view-Plus l r)))
+    c.expr-in-Plus-2.ensures
+
+pub expr-returns-in_ok-expr-in-Minus : goal.expr-returns-in_ok-expr-in-Minus
+expr-returns-in_ok-expr-in-Minus t c =
+    let start = seen c.args.self.now in
+    let mid = seen c.expr-in-Minus.new.self in
+    let l = c.in-Minus.left in
+    let r = c.in-Minus.right in
+    on_ok c.expr-in-Minus-2.result
+    (λ e. both_as start mid (seen c.expr-in-Minus-2.new.self)
+    (λ m vs. expr_brings m vs (Some int_kind) (expr_view l)) (λ m vs. expr_brings m vs (Some int_kind) (expr_view r)) _
+    (c.in_ok-expr-in-Minus.ensures ∙ ap (λ (x : ExprNode). sought start (expr_brings start.kinds.names start.vars (Some int_kind) (expr_view x))) c.get-in-Minus.ensures)
+    (e ∙ ap (λ (x : ExprNode). sought mid (expr_brings mid.kinds.names mid.vars (Some int_kind) (expr_view x))) c.get-in-Minus-2.ensures)
+    (ap (expr_brings start.kinds.names start.vars c.args.asked) (expr_view-parts c.args.e.now)
+    ∙ ap (form_brings start.kinds.names start.vars c.args.asked) (ap expr_form_view c.in-Minus.is ∙ expr_form_view-Minus l r)))
+    c.expr-in-Minus-2.ensures
+
+pub word-loop-place-preserved : goal.word-loop-place-preserved
+word-loop-place-preserved t c =
+    let start = c.args.self.now in
+    let old = c.loop-place.self in
+    let n = names_view start.kinds.names.now in
+    let args = c.args.args.now in
+    let i = c.loop-place.place in
+    let x = c.index-args-place.result in
+    let ks = word_args n start.vars c.args.word (exprs_view args) in
+    let f : Names → List Var → List Kind = λ m vs. expr_brings m vs (Some (first_kind (drop i (word_args m vs c.args.word (exprs_view args))))) (expr_view x) in
+    goes_on (seen start) (seen old) (seen c.expr.new.self)
+    (args_bring n start.vars (drop i ks) (exprs_view (drop i args))) (args_bring n start.vars (drop (i + 1) ks) (exprs_view (drop (i + 1) args)))
+    (args_bring n start.vars ks (exprs_view args)) f c.loop-place.invariant
+    (ap (λ (xs : List ExprNode). args_bring n start.vars (drop i ks) (exprs_view xs)) (rest_is args i x c.loop-place-test.true c.index-args-place.is)
+    ∙ ap (λ js. f n start.vars ++ args_bring n start.vars js (exprs_view (drop (i + 1) args))) (other_dropped ks i))
+    (c.in_ok-expr.ensures ∙ ap (λ k. sought (seen old) (expr_brings (names_view old.kinds.names.now) old.vars (Some k) (expr_view x)))
+    (c.in_ok-kind.ensures ∙ ap (λ m. first_kind (drop i (word_args m old.vars c.args.word (exprs_view args)))) (ap names_view c.names.ensures)))
