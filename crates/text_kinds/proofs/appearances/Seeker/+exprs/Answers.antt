@@ -3,10 +3,12 @@ use Rattle.rp_ast.specs.declared.expr.AccessStep.{AccessStep}
 use Rattle.rp_ast.specs.View.{expr_form_view, param_view, pattern_view, step_view, steps_view}
 use Rattle.rp_ast.proofs.ExprViews.{expr_arm_view-parts, expr_form_view-Compare, expr_form_view-Exists, expr_form_view-Forall, expr_form_view-Implies, expr_form_view-Match, expr_form_view-Minus, expr_form_view-Plus, expr_form_view-SomeOf, expr_view-parts}
 use Rattle.rp_grammar.specs.Trees.{ExprArmTree, ExprForm}
-use Rattle.type_rules.specs.Kinds.{int_kind}
+use Rattle.type_rules.specs.Kinds.{int_kind, kind_of}
 use Rattle.type_rules.specs.Accesses.{args_of}
 use Rattle.type_rules.specs.Matches.{first_kind, pattern_kinds, pattern_name, pattern_vars}
-use Rattle.type_rules.specs.ExprSites.{left_want, right_want, word_args}
+use Rattle.type_rules.specs.ExprSites.{left_want, quantified_var, right_want, word_args}
+use Rattle.type_rules.specs.Names.{param_type}
+use Rattle.desugaring.specs.Appearances.{parts}
 use Rattle.type_terms.specs.Views.{access_view, way_view}
 use Rattle.text_kinds.specs.means.Brought.{args_bring, behind_pattern, form_brings, key_brings, steps_bring}
 use Rattle.text_kinds.proofs.Bare.{bound_more}
@@ -146,3 +148,54 @@ word-loop-place-preserved t c =
     ∙ ap (λ js. f n start.vars ++ args_bring n start.vars js (exprs_view (drop (i + 1) args))) (other_dropped ks i))
     (c.in_ok-expr.ensures ∙ ap (λ k. sought (seen old) (expr_brings (names_view old.kinds.names.now) old.vars (Some k) (expr_view x)))
     (c.in_ok-kind.ensures ∙ ap (λ m. first_kind (drop i (word_args m old.vars c.args.word (exprs_view args)))) (ap names_view c.names.ensures)))
+
+pub expr-returns-in-Forall : goal.expr-returns-in-Forall
+expr-returns-in-Forall t c =
+    let start = seen c.args.self.now in
+    let n = start.kinds.names in
+    let p = param_view c.in-Forall.param in
+    on_ok c.quantified.result
+    (λ e. e
+    ∙ ap (λ (x : ExprNode). sought start (parts n (kind_of n (param_type p)) ++ expr_brings n (start.vars ++ quantified_var n p ∷ []) (Some bool_kind) (expr_view x)))
+    c.get-in-Forall-2.ensures
+    ∙ ap (sought start) (sym (ap (expr_brings n start.vars c.args.asked) (expr_view-parts c.args.e.now)
+    ∙ ap (form_brings n start.vars c.args.asked) (ap expr_form_view c.in-Forall.is ∙ expr_form_view-Forall c.in-Forall.param c.in-Forall.body))))
+    (c.quantified.ensures p (ap param_view (sym c.get-in-Forall.ensures)))
+
+pub expr-returns-in-Exists : goal.expr-returns-in-Exists
+expr-returns-in-Exists t c =
+    let start = seen c.args.self.now in
+    let n = start.kinds.names in
+    let p = param_view c.in-Exists.param in
+    on_ok c.quantified-in-Exists.result
+    (λ e. e
+    ∙ ap (λ (x : ExprNode). sought start (parts n (kind_of n (param_type p)) ++ expr_brings n (start.vars ++ quantified_var n p ∷ []) (Some bool_kind) (expr_view x)))
+    c.get-in-Exists-2.ensures
+    ∙ ap (sought start) (sym (ap (expr_brings n start.vars c.args.asked) (expr_view-parts c.args.e.now)
+    ∙ ap (form_brings n start.vars c.args.asked) (ap expr_form_view c.in-Exists.is ∙ expr_form_view-Exists c.in-Exists.param c.in-Exists.body))))
+    (c.quantified-in-Exists.ensures p (ap param_view (sym c.get-in-Exists.ensures)))
+
+pub expr-returns-in_ok-expr-in-Compare : goal.expr-returns-in_ok-expr-in-Compare
+expr-returns-in_ok-expr-in-Compare t c =
+    let start = seen c.args.self.now in
+    let n = start.kinds.names in
+    let vs = start.vars in
+    let mid = seen c.expr-in-Compare.new.self in
+    let op = c.in-Compare.op in
+    let l = c.in-Compare.left in
+    let r = c.in-Compare.right in
+    let first : c.in_ok-first-in-Compare.first ≡ (left_want n vs op (expr_view l) (expr_view r)).asked =
+    c.in_ok-first-in-Compare.ensures
+    ∙ ap₂ (λ (x y : ExprNode). (left_want n vs op (expr_view x) (expr_view y)).asked) c.get-in-Compare.ensures c.get-in-Compare-2.ensures in
+    let second : c.in_ok-second-in-Compare.second ≡ (right_want n vs op (expr_view l) (expr_view r)).asked =
+    c.in_ok-second-in-Compare.ensures
+    ∙ ap₂ (λ (x y : ExprNode). (right_want n vs op (expr_view x) (expr_view y)).asked) c.get-in-Compare-3.ensures c.get-in-Compare-4.ensures in
+    on_ok c.expr-in-Compare-2.result
+    (λ e. both_as start mid (seen c.expr-in-Compare-2.new.self)
+    (λ m ws. expr_brings m ws c.in_ok-first-in-Compare.first (expr_view l)) (λ m ws. expr_brings m ws c.in_ok-second-in-Compare.second (expr_view r)) _
+    (c.in_ok-expr-in-Compare.ensures ∙ ap (λ (x : ExprNode). sought start (expr_brings n vs c.in_ok-first-in-Compare.first (expr_view x))) c.get-in-Compare-5.ensures)
+    (e ∙ ap (λ (x : ExprNode). sought mid (expr_brings mid.kinds.names mid.vars c.in_ok-second-in-Compare.second (expr_view x))) c.get-in-Compare-6.ensures)
+    (ap (expr_brings n vs c.args.asked) (expr_view-parts c.args.e.now)
+    ∙ ap (form_brings n vs c.args.asked) (ap expr_form_view c.in-Compare.is ∙ expr_form_view-Compare op l r)
+    ∙ sym (ap₂ (λ a b. expr_brings n vs a (expr_view l) ++ expr_brings n vs b (expr_view r)) first second)))
+    c.expr-in-Compare-2.ensures
