@@ -64,6 +64,62 @@ def names():
     return filled("a ")
 
 
+def numbered(part, head=""):
+    """The head, and then as many of the part as fit into 262,144 bytes, each with its number in place of {0}."""
+    parts, size = [head], len(head)
+    while True:
+        parts.append(part.format(len(parts)))
+        size += len(parts[-1])
+        if size > LIMIT:
+            return "".join(parts[:-1])
+
+
+def declarations():
+    """Many short declarations, each with a name of its own, of which each uses the type of the first."""
+    return numbered("crdt s{0}: SetAw[U];\n", "idtype U;\n")
+
+
+def long_names():
+    """Names of 1,000 bytes that differ in their last, each of a type and of the set over it."""
+    long = "n" * 990
+    return numbered("idtype t" + long + "{0:06};\ncrdt s{0}: SetAw[t" + long + "{0:06}];\n")
+
+
+def conditions():
+    """One procedure of 200 statements, each with a condition of some 60 levels."""
+    deep = "a"
+    for level in range(58):
+        deep = f"({deep} && b || !c)" if level % 2 else f"({deep} || !b && c)"
+    each = f"  if ({deep}) {{ assert a ==> {deep}; }}\n"
+    count = min(100, LIMIT // len(each))
+    return "proc p(a: Bool, b: Bool, c: Bool) {\n" + each * count + "}\n"
+
+
+def invariants():
+    """64 invariants over a set, each a long chain under two quantifiers."""
+    head = "idtype U;\ncrdt s: SetAw[U];\n"
+    part = "s.contains(u) && u == v || "
+    start, end = "invariant forall u: U, v: U :: ", "true;\n"
+    many = ((LIMIT - len(head)) // 64 - len(start) - len(end)) // len(part)
+    return head + (start + part * many + end) * 64
+
+
+def doublings():
+    """Queries, each of which uses the one before twice."""
+    lines, size = ["query q0(x: Int): Int = x + x;\n"], 0
+    while size <= LIMIT:
+        last = len(lines) - 1
+        lines.append(f"query q{last + 1}(x: Int): Int = q{last}(x) + q{last}(x);\n")
+        size += len(lines[-2])
+    return "".join(lines[:-2])
+
+
+def dropped():
+    """Uses of a query that drops its second argument, each with a long one there."""
+    long = " + ".join(["x"] * 60)
+    return numbered("query q{0}(x: Int): Int = first(x, " + long + ");\n", "query first(x: Int, y: Int): Int = x;\n")
+
+
 # Runs a command with its output thrown away, and prints the greatest memory that the system counted, in KiB.
 # A program of its own, since a process starts with the count of the one that began it.
 PEAK = """
@@ -110,6 +166,12 @@ def main():
             ("a flat text", flat()),
             ("a deeply nested text", nested()),
             ("a text of names", names()),
+            ("short declarations", declarations()),
+            ("long names", long_names()),
+            ("deep conditions", conditions()),
+            ("64 invariants", invariants()),
+            ("queries that double", doublings()),
+            ("a dropped argument", dropped()),
         ]
         for number, (what, text) in enumerate(texts):
             name = os.path.join(folder, f"{number}.rpl")

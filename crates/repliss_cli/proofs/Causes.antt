@@ -6,7 +6,7 @@ use Rattle.std.specs.Prelude.{IfSome}
 use Rattle.std.proofs.lemmas.List.{length-replicate}
 use Rattle.rp_io.specs.Files.{Contents, content_of}
 use Rattle.repliss_cli.specs.declared.report.Report.{Report}
-use Rattle.repliss_cli.specs.declared.report.Report.TheVariants.{Verified, Unproved, Usage, ProgramBytes, Lex, Syntax, Depth, NotYet}
+use Rattle.repliss_cli.specs.declared.report.Report.TheVariants.{Verified, Unproved, Usage, ProgramBytes, Lex, Syntax, Depth, Rule, NotYet}
 use Rattle.repliss_cli.specs.Words.{Words, named}
 use Rattle.repliss_cli.specs.Answers.{OnContent, OnName, IsReportOf, HasCause}
 use Rattle.repliss_cli.proofs.Reports.{some_report}
@@ -28,6 +28,7 @@ content_cause words told name content ProgramBytes e same h = on_name words told
 content_cause words told name content (Lex fault pos) e same h = on_name words told name _ e (on_content (content_of told name) content _ same h)
 content_cause words told name content (Syntax pos) e same h = on_name words told name _ e (on_content (content_of told name) content _ same h)
 content_cause words told name content Depth e same h = on_name words told name _ e (on_content (content_of told name) content _ same h)
+content_cause words told name content (Rule rule pos) e same h = on_name words told name _ e (on_content (content_of told name) content _ same h)
 content_cause words told name content NotYet e same h = on_name words told name _ e (on_content (content_of told name) content _ same h)
 
 -- some bytes are longer

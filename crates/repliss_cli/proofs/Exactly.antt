@@ -6,7 +6,7 @@ use Rattle.std.specs.Prelude.{IfSome, IsSome}
 use Rattle.rp_io.specs.Files.{Contents, content_of}
 use Rattle.rp_io.specs.Sinks.{Puts}
 use Rattle.repliss_cli.specs.declared.report.Report.{Report}
-use Rattle.repliss_cli.specs.declared.report.Report.TheVariants.{Verified, Unproved, Usage, ProgramBytes, Lex, Syntax, Depth, NotYet}
+use Rattle.repliss_cli.specs.declared.report.Report.TheVariants.{Verified, Unproved, Usage, ProgramBytes, Lex, Syntax, Depth, Rule, NotYet}
 use Rattle.repliss_cli.specs.declared.report.Status.{Status}
 use Rattle.repliss_cli.specs.declared.report.Status.TheVariants.{Fine, Found, Refused, ReadFault, WriteFault, NoMemory}
 use Rattle.repliss_cli.specs.Words.{Words, named}
@@ -39,6 +39,7 @@ asked words told (Unproved n lines) are h = on_told words told (Unproved n lines
 asked words told (Lex f pos) are h = on_told words told (Lex f pos) are (named words) refl h
 asked words told (Syntax pos) are h = on_told words told (Syntax pos) are (named words) refl h
 asked words told Depth are h = on_told words told Depth are (named words) refl h
+asked words told (Rule rule pos) are h = on_told words told (Rule rule pos) are (named words) refl h
 asked words told NotYet are h = on_told words told NotYet are (named words) refl h
 
 one_asked : {words : Words} {told : Option Contents} {r s : Report} → Asked words told r → Asked words told s → r ≡ s

@@ -1,5 +1,5 @@
 -- Refusals of a text, from what its tokens and its tree are.
-use Rattle.std.proofs.Common.{◌≡◌, ℕ, zero, suc, ◌<◌, ◌≤◌, List, [], ◌∷◌, length, Option, None, Some, slice_get, All, refl, sym, ap, subst, arith}
+use Rattle.std.proofs.Common.{◌≡◌, ℕ, zero, suc, ◌<◌, ◌≤◌, List, [], ◌∷◌, length, Option, None, Some, slice_get, All, refl, sym, ap, subst, ◌∙◌, arith}
 use Rattle.std.specs.Option.{IfNone}
 use Rattle.std.proofs.lemmas.List.Elements.{All-head, All-tail}
 use Rattle.rp_span.specs.Places.{place_of}
@@ -16,6 +16,9 @@ use Rattle.rp_lang.specs.declared.program.Program.{Program}
 use Rattle.rp_lang.specs.Programs.{Proc, Prog}
 use Rattle.rp_types.specs.FirstProgram.{IsProgramOf}
 use Rattle.rp_types.proofs.FoundProgram.{only_program}
+use Rattle.type_rules.specs.declared.fault.Fault.{Fault}
+use Rattle.type_rules.specs.Faults.{IsFirstFault, IsLawful, first_fault}
+use Rattle.type_rules.proofs.Least.{fault_least, none_lawful}
 use Rattle.rp_parser.specs.Answers.{IsFault}
 use Rattle.rp_parser.specs.declared.error.ParseErr.{ParseErr}
 use Rattle.rp_parser.specs.declared.error.ParseErr.TheVariants as parse_err
@@ -23,7 +26,7 @@ use Rattle.rp_verify.specs.Verdicts.{proc_paths, HasFewPaths, IsPast, IsWithinLi
 use Rattle.rp_verify.specs.declared.verdict.GoalErr.{GoalErr}
 use Rattle.rp_verify.specs.declared.verdict.GoalErr.TheVariants as err
 use Rattle.repliss_cli.specs.FirstText.{IsFirstText}
-use Rattle.repliss_cli.specs.Answers.{IsSyntaxFault, IsTooDeepText, IsOtherText}
+use Rattle.repliss_cli.specs.Answers.{IsSyntaxFault, IsTooDeepText, IsBrokenText, IsOtherText}
 use Rattle.repliss_cli.proofs.Readings.{some_place, one_tree}
 
 -- as many as the tokens
@@ -62,11 +65,12 @@ pub too_deep_text : {content : List ℕ} {k : ℕ} → length content ≤ 262144
 too_deep_text {k = k} short (us, has, is) = let (p, there) = some_place us k is.0 in record { short = short; at = p; deep = (us, k, has, is, there) }
 
 -- the text's tree is no program of the first form
-pub other_text : {content : List ℕ} {t : List DeclTree} → length content ≤ 262144 → IsTextWithin 64 content t → ((p : Prog) → IsProgramOf t p → ⊥) → IsOtherText content
-other_text {t = t} short text none = record {
+pub other_text : {content : List ℕ} {t : List DeclTree} → length content ≤ 262144 → IsTextWithin 64 content t → IsLawful t → ((p : Prog) → IsProgramOf t p → ⊥) → IsOtherText content
+other_text {t = t} short text lawful none = record {
   short = short;
   tree = t;
   text = text;
+  lawful = lawful;
   other = λ p first. none p (subst (λ t. IsProgramOf t p) (one_tree first.text text) first.program);
 }
 
@@ -85,17 +89,36 @@ past_limits p err.Goals (few, many) other within = let few = within.few_goals in
 past_limits p err.Memory first other within = other refl
 
 -- the program of the text's tree is that of a text of the first form
-pub first_text : {content : List ℕ} {p : Prog} → length content ≤ 262144 → (t : List DeclTree) × IsTextWithin 64 content t × IsProgramOf t p → IsWithinLimits p → IsFirstText content p
-first_text short (t, text, is) within = record { short = short; tree = t; text = text; program = is; within = within }
+pub first_text : {content : List ℕ} {p : Prog} → length content ≤ 262144 → (t : List DeclTree) × IsTextWithin 64 content t × IsLawful t × IsProgramOf t p → IsWithinLimits p → IsFirstText content p
+first_text short (t, text, lawful, is) within = record { short = short; tree = t; text = text; lawful = lawful; program = is; within = within }
 
 -- the program of the text's tree passes a limit
-pub past_text : {content : List ℕ} {p : Prog} → length content ≤ 262144 → (t : List DeclTree) × IsTextWithin 64 content t × IsProgramOf t p → (IsWithinLimits p → ⊥) → IsOtherText content
-past_text {p = p} short (t, text, is) past = record {
+pub past_text : {content : List ℕ} {p : Prog} → length content ≤ 262144 → (t : List DeclTree) × IsTextWithin 64 content t × IsLawful t × IsProgramOf t p → (IsWithinLimits p → ⊥) → IsOtherText content
+past_text {p = p} short (t, text, lawful, is) past = record {
   short = short;
   tree = t;
   text = text;
+  lawful = lawful;
   other = λ q first. past (subst IsWithinLimits (sym (only_program t p q is (subst (λ t. IsProgramOf t q) (one_tree first.text text) first.program))) first.within);
 }
+
+-- the first fault that was found is that of the text
+pub broken_text : {content : List ℕ} {t : List DeclTree} {found : Option Fault} {f : Fault}
+    → length content ≤ 262144 → IsTextWithin 64 content t → found ≡ first_fault t → found ≡ Some f
+    → IsBrokenText content f.rule (place_of content f.span.from)
+broken_text {t = t} {f = f} short text exact some = record {
+  short = short;
+  tree = t;
+  text = text;
+  fault = f;
+  first = subst (λ o. IsFirstFault t o) (sym exact ∙ some) (fault_least t);
+  broken = refl;
+  stands = refl;
+}
+
+-- no fault was found
+pub lawful_text : (t : List DeclTree) (found : Option Fault) → found ≡ first_fault t → found ≡ None → IsLawful t
+lawful_text t found exact none = none_lawful t (sym exact ∙ none)
 
 -- what is said where there is no program
 pub where_none : {found : Option Program} {P : Type 0} → found ≡ None → IfNone found P → P

@@ -1,5 +1,5 @@
 -- Each text has some report.
-use Rattle.std.proofs.Common.{◌≡◌, ℕ, ◌≤◌, List, [], ◌∷◌, map, length, All, refl, sym, subst, ◌∙◌, ◌⊎◌, inl, inr}
+use Rattle.std.proofs.Common.{◌≡◌, ℕ, ◌≤◌, List, [], ◌∷◌, map, length, Option, Some, None, All, refl, sym, subst, ◌∙◌, ◌⊎◌, inl, inr}
 use Rattle.std.proofs.Math.Decide.{dec_le}
 use Rattle.std.proofs.lemmas.List.Elements.{All-nil, All-cons, All-head, All-tail}
 use Rattle.rp_span.specs.Places.{place_of}
@@ -8,11 +8,14 @@ use Rattle.rp_lang.specs.Programs.{Proc, Prog}
 use Rattle.event_machine.specs.Goals.{goals}
 use Rattle.event_machine.proofs.TestLemmas as tests
 use Rattle.rp_types.specs.FirstProgram.{IsProgramOf}
+use Rattle.type_rules.specs.declared.fault.Fault.{Fault}
+use Rattle.type_rules.specs.Faults.{IsFirstFault, IsLawful, first_fault}
+use Rattle.type_rules.proofs.Least.{fault_least}
 use Rattle.rp_verify.specs.Verdicts.{unproved, proc_paths, HasFewPaths, IsWithinLimits}
 use Rattle.rp_verify.specs.declared.verdict.Unproved as found
 use Rattle.rp_verify.proofs.SafeFound.{safe_none_found}
 use Rattle.repliss_cli.specs.declared.report.Report.{Report}
-use Rattle.repliss_cli.specs.declared.report.Report.TheVariants.{Verified, Unproved, ProgramBytes, Lex, Syntax, Depth, NotYet}
+use Rattle.repliss_cli.specs.declared.report.Report.TheVariants.{Verified, Unproved, ProgramBytes, Lex, Syntax, Depth, Rule, NotYet}
 use Rattle.repliss_cli.specs.FirstText.{IsFirstText}
 use Rattle.repliss_cli.specs.Answers.{IsReportOf}
 use Rattle.repliss_cli.specs.means.Lines.{line_for}
@@ -64,22 +67,31 @@ other {t = t} {p = p} one (reads_tree short text) is past q first =
 none_other : {content : List ℕ} {t : List DeclTree} → Reads content (tree t) → ((p : Prog) → IsProgramOf t p → ⊥) → (q : Prog) → IsFirstText content q → ⊥
 none_other {t = t} (reads_tree short text) none q first = none q (subst (λ t. IsProgramOf t q) (one_tree first.text text) first.program)
 
-of_program : (content : List ℕ) (t : List DeclTree) (p : Prog) → OneProgram → Reads content (tree t) → IsProgramOf t p → IsWithinLimits p ⊎ (IsWithinLimits p → ⊥) → (r : Report) × IsReportOf content r
-of_program content t p one (reads_tree short text) is (inl within) =
-    verified_or_not content p (record { short = short; tree = t; text = text; program = is; within = within }) (unproved p) refl
-of_program content t p one (reads_tree short text) is (inr past) =
-    (NotYet, record { short = short; tree = t; text = text; other = other one (reads_tree short text) is past })
+of_program : (content : List ℕ) (t : List DeclTree) (p : Prog) → OneProgram → Reads content (tree t) → IsLawful t → IsProgramOf t p → IsWithinLimits p ⊎ (IsWithinLimits p → ⊥) → (r : Report) × IsReportOf content r
+of_program content t p one (reads_tree short text) lawful is (inl within) =
+    verified_or_not content p (record { short = short; tree = t; text = text; lawful = lawful; program = is; within = within }) (unproved p) refl
+of_program content t p one (reads_tree short text) lawful is (inr past) =
+    (NotYet, record { short = short; tree = t; text = text; lawful = lawful; other = other one (reads_tree short text) is past })
 
-of_tree : (content : List ℕ) (t : List DeclTree) → OneProgram → Reads content (tree t) → ((p : Prog) × IsProgramOf t p) ⊎ ((p : Prog) → IsProgramOf t p → ⊥) → (r : Report) × IsReportOf content r
-of_tree content t one reads (inl (p, is)) = of_program content t p one reads is (within_or_not p)
-of_tree content t one (reads_tree short text) (inr none) = (NotYet, record { short = short; tree = t; text = text; other = none_other (reads_tree short text) none })
+of_tree : (content : List ℕ) (t : List DeclTree) → OneProgram → Reads content (tree t) → IsLawful t → ((p : Prog) × IsProgramOf t p) ⊎ ((p : Prog) → IsProgramOf t p → ⊥) → (r : Report) × IsReportOf content r
+of_tree content t one reads lawful (inl (p, is)) = of_program content t p one reads lawful is (within_or_not p)
+of_tree content t one (reads_tree short text) lawful (inr none) = (NotYet, record { short = short; tree = t; text = text; lawful = lawful; other = none_other (reads_tree short text) none })
+
+-- the first fault, if there is one, decides
+of_fault : (content : List ℕ) (t : List DeclTree) → OneProgram → Reads content (tree t) → ((p : Prog) × IsProgramOf t p) ⊎ ((p : Prog) → IsProgramOf t p → ⊥)
+    → (o : Option Fault) → IsFirstFault t o → (r : Report) × IsReportOf content r
+of_fault content t one (reads_tree short text) some (Some f) first = (
+  Rule f.rule (place_of content f.span.from),
+  record { short = short; tree = t; text = text; fault = f; first = first; broken = refl; stands = refl },
+)
+of_fault content t one reads some None lawful = of_tree content t one reads lawful some
 
 of_reading : (content : List ℕ) (a : Reading) → OneProgram → SomeProgram → Reads content a → (r : Report) × IsReportOf content r
 of_reading content too_long one some (reads_too_long long) = (ProgramBytes, long)
 of_reading content (faulty p f) one some (reads_faulty short is) = (Lex f (place_of content p), record { short = short; at = p; faulty = is; stands = refl })
 of_reading content (bad p) one some (reads_bad short is) = (Syntax (place_of content p), record { short = short; at = p; bad = is; stands = refl })
 of_reading content too_deep one some (reads_too_deep {p = p} short is) = (Depth, record { short = short; at = p; deep = is })
-of_reading content (tree t) one some reads = of_tree content t one reads (some t)
+of_reading content (tree t) one some reads = of_fault content t one reads (some t) (first_fault t) (fault_least t)
 
 pub some_report : OneProgram → SomeProgram → (content : List ℕ) → (r : Report) × IsReportOf content r
 some_report one some content = let (a, reads) = some_reading content in of_reading content a one some reads

@@ -9,13 +9,15 @@ use Rattle.rp_grammar.specs.declared.LexFault.{LexFault}
 use Rattle.rp_grammar.specs.Lexed.{Faulty}
 use Rattle.rp_grammar.specs.Trees.{DeclTree}
 use Rattle.rp_grammar.specs.Texts.{IsTextWithin, IsBadAt, IsTooDeepAt}
+use Rattle.type_rules.specs.declared.fault.Fault.{Fault}
+use Rattle.type_rules.specs.Faults.{IsFirstFault, IsLawful}
 use Rattle.event_machine.specs.Runs.{IsSafe}
 use Rattle.rp_span.specs.declared.Pos.{Pos}
 use Rattle.rp_span.specs.Places.{place_of}
 use Rattle.event_machine.specs.Goals.{Goal, goals, path, IsFalseGoal}
 use Rattle.repliss_cli.specs.declared.report.GoalLine.{GoalLine}
 use Rattle.repliss_cli.specs.declared.report.Report.{Report}
-use Rattle.repliss_cli.specs.declared.report.Report.TheVariants.{Verified, Unproved, Usage, ProgramBytes, Lex, Syntax, Depth, NotYet}
+use Rattle.repliss_cli.specs.declared.report.Report.TheVariants.{Verified, Unproved, Usage, ProgramBytes, Lex, Syntax, Depth, Rule, NotYet}
 use Rattle.repliss_cli.specs.declared.report.Status.{Status}
 use Rattle.repliss_cli.specs.declared.report.Status.TheVariants.{ReadFault, WriteFault, NoMemory}
 use Rattle.repliss_cli.specs.Texts.{report_text, status_of}
@@ -75,11 +77,22 @@ pub record IsTooDeepText (content : List ℕ) : Type 0 where
   pub at : ℕ
   pub deep : IsTooDeepAt 64 content at
 
--- The bytes are a program's text within the nestings, and not of the first form.
+-- The first broken type rule of the text is this one, and there stands the token at which the offending item begins.
+pub record IsBrokenText (content : List ℕ) (rule : ℕ) (pos : Pos) : Type 0 where
+  pub short : length content ≤ 262144
+  pub tree : List DeclTree
+  pub text : IsTextWithin 64 content tree
+  pub fault : Fault
+  pub first : IsFirstFault tree (Some fault)
+  pub broken : rule ≡ fault.rule
+  pub stands : pos ≡ place_of content fault.span.from
+
+-- The bytes are a program's text within the nestings that breaks no type rule, and not of the first form.
 pub record IsOtherText (content : List ℕ) : Type 0 where
   pub short : length content ≤ 262144
   pub tree : List DeclTree
   pub text : IsTextWithin 64 content tree
+  pub lawful : IsLawful tree
   pub other : (p : Prog) → IsFirstText content p → ⊥
 
 -- the content of the named file is such: that which the files tell, or, where they don't, some content
@@ -100,6 +113,7 @@ IsReportOf content ProgramBytes = 262144 < length content
 IsReportOf content (Lex fault pos) = IsLexFault content fault pos
 IsReportOf content (Syntax pos) = IsSyntaxFault content pos
 IsReportOf content Depth = IsTooDeepText content
+IsReportOf content (Rule rule pos) = IsBrokenText content rule pos
 IsReportOf content NotYet = IsOtherText content
 
 -- The report's cause stands: other words than `verify FILE`, or the content of the file.

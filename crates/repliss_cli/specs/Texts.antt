@@ -1,5 +1,5 @@
 -- The text of a report.
-use Rattle.std.specs.Prelude.{ℕ, ◌==◌, length, List, [], ◌∷◌, ◌++◌, flat_map, codes, decimal, if◌then◌else◌}
+use Rattle.std.specs.Prelude.{ℕ, ◌==◌, ltb, length, List, [], ◌∷◌, ◌++◌, flat_map, codes, decimal, if◌then◌else◌}
 use Rattle.rp_span.specs.declared.Pos.{Pos}
 use Rattle.rp_grammar.specs.declared.LexFault.{LexFault}
 use Rattle.rp_grammar.specs.declared.LexFault.TheVariants.{BadByte, OpenString, NumberRange}
@@ -7,7 +7,7 @@ use Rattle.repliss_cli.specs.declared.report.GoalLine.{GoalLine}
 use Rattle.repliss_cli.specs.declared.report.Status.{Status}
 use Rattle.repliss_cli.specs.declared.report.Status.TheVariants.{Fine, Found, Refused, ReadFault, WriteFault, NoMemory}
 use Rattle.repliss_cli.specs.declared.report.Report.{Report}
-use Rattle.repliss_cli.specs.declared.report.Report.TheVariants.{Verified, Unproved, Usage, ProgramBytes, Lex, Syntax, Depth, NotYet}
+use Rattle.repliss_cli.specs.declared.report.Report.TheVariants.{Verified, Unproved, Usage, ProgramBytes, Lex, Syntax, Depth, Rule, NotYet}
 
 -- the end of a line that counts goals: `s` is left out after 1 alone
 abbrev pub goals_end : ℕ → List ℕ
@@ -38,6 +38,13 @@ fault_name BadByte = codes "bad byte"
 fault_name OpenString = codes "open string"
 fault_name NumberRange = codes "number range"
 
+-- what stands before a type rule's number, so that it has two digits
+abbrev pub zero_before : ℕ → List ℕ
+zero_before rule = if ltb rule 10 then codes "0" else codes ""
+
+abbrev pub rule_line : ℕ → Pos → List ℕ
+rule_line rule pos = codes "refused: type T" ++ (zero_before rule ++ (decimal rule ++ place_text pos))
+
 -- the bytes of a report
 abbrev pub report_text : Report → List ℕ
 report_text (Verified goals) = verified_line goals
@@ -47,6 +54,7 @@ report_text ProgramBytes = codes "refused: limit program bytes 262144\n"
 report_text (Lex fault pos) = codes "refused: lex " ++ (fault_name fault ++ place_text pos)
 report_text (Syntax pos) = codes "refused: syntax" ++ place_text pos
 report_text Depth = codes "refused: limit depth 64\n"
+report_text (Rule rule pos) = rule_line rule pos
 report_text NotYet = codes "refused: not yet\n"
 
 -- how the command ends that puts it
@@ -58,6 +66,7 @@ status_of ProgramBytes = Refused
 status_of (Lex fault pos) = Refused
 status_of (Syntax pos) = Refused
 status_of Depth = Refused
+status_of (Rule rule pos) = Refused
 status_of NotYet = Refused
 
 -- the number with which the process ends

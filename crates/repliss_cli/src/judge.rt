@@ -10,6 +10,7 @@ ghost use Rattle.rp_grammar.specs.Trees.{DeclTree};
 ghost use Rattle.rp_grammar.specs.Texts.{IsTextWithin};
 ghost use Rattle.rp_ast.specs.View.{ast_view};
 ghost use Rattle.rp_types.specs.FirstProgram.{IsProgramOf};
+ghost use Rattle.type_rules.specs.Faults.{IsLawful};
 ghost use Rattle.repliss_cli.specs.means.Lines.{line_for};
 
 use crate::places::{marks_of, place_in, place_near};
@@ -24,6 +25,7 @@ use rp_types::first_program;
 use rp_value::{List, Memory, copy_bytes, copy_list};
 use rp_verify::{GoalErr, Unproved, Verdict, verify};
 use std::alloc::Global;
+use type_faults::first_fault;
 
 /// The name of a procedure.
 fn name_of(program: &Program, proc: Option<u32>) -> &[u8]
@@ -78,7 +80,7 @@ fn lines_for(
 /// The report on a program of the first form.
 fn report_on_program(alloc: Global, text: &Text, program: &Program) -> Result<Report, Memory>
     requires read { (tree : Items DeclTree) × IsTextWithin 64 text.now tree
-        × IsProgramOf tree (program_view program.now) }
+        × IsLawful tree × IsProgramOf tree (program_view program.now) }
     requires short { length text.now ≤ 262144 }
     ensures { IfOk result (λ report. IsReportOf text.now report) }
 {
@@ -96,9 +98,10 @@ fn report_on_program(alloc: Global, text: &Text, program: &Program) -> Result<Re
     }
 }
 
-/// The report on a text with this tree.
-fn report_on_tree(alloc: Global, text: &Text, ast: &Ast) -> Result<Report, Memory>
+/// The report on a text with this tree, in which no type rule is broken.
+fn report_on_lawful(alloc: Global, text: &Text, ast: &Ast) -> Result<Report, Memory>
     requires read { IsTextWithin 64 text.now (ast_view ast.now) }
+    requires lawful { IsLawful (ast_view ast.now) }
     requires short { length text.now ≤ 262144 }
     ensures { IfOk result (λ report. IsReportOf text.now report) }
 {
@@ -110,6 +113,21 @@ fn report_on_tree(alloc: Global, text: &Text, ast: &Ast) -> Result<Report, Memor
         }
         Ok(None) => Ok(Report::NotYet),
         Err(Memory) => Err(Memory),
+    }
+}
+
+/// The report on a text with this tree.
+fn report_on_tree(alloc: Global, text: &Text, ast: &Ast) -> Result<Report, Memory>
+    requires read { IsTextWithin 64 text.now (ast_view ast.now) }
+    requires short { length text.now ≤ 262144 }
+    ensures { IfOk result (λ report. IsReportOf text.now report) }
+{
+    match first_fault(alloc, ast)? {
+        None => report_on_lawful(alloc, text, ast),
+        Some(fault) => Ok(Report::Rule {
+            rule: fault.rule,
+            at: place_in(text, fault.span.from),
+        }),
     }
 }
 

@@ -1,7 +1,7 @@
 // Reports, their statuses and their lines.
-ghost use Rattle.std.specs.Prelude.{◌≡◌, ◌++◌, ◌∷◌, [], codes, decimal, flat_map, string_bytes, IfOk, OnOk};
+ghost use Rattle.std.specs.Prelude.{◌≡◌, ◌++◌, ◌∷◌, [], codes, decimal, flat_map, length, string_bytes, IfOk, OnOk};
 ghost use Rattle.rp_io.specs.Sinks.{bytes_of};
-ghost use Rattle.repliss_cli.specs.Texts.{goal_line, choice_text, fault_name, goals_end, path_text, place_text, report_text, status_of, number_of, unproved_line, verified_line};
+ghost use Rattle.repliss_cli.specs.Texts.{goal_line, choice_text, fault_name, goals_end, path_text, place_text, report_text, rule_line, status_of, number_of, unproved_line, verified_line, zero_before};
 
 use rp_lexer::LexFault;
 use rp_span::Pos;
@@ -56,6 +56,8 @@ pub enum Report {
     /// Where the first token stands that can't follow.
     Syntax { at: Pos },
     Depth,
+    /// The first broken type rule, by its number, and where the offending item begins.
+    Rule { rule: u8, at: Pos },
     NotYet,
 }
 
@@ -72,6 +74,7 @@ impl Report {
             | Report::Lex { .. }
             | Report::Syntax { .. }
             | Report::Depth
+            | Report::Rule { .. }
             | Report::NotYet => Status::Refused,
         }
     }
@@ -138,13 +141,12 @@ fn line_of_goal(alloc: Global, goal: &GoalLine) -> Result<Vec<u8>, Memory>
     Ok(line)
 }
 
-/// A report of one line.
-fn one(alloc: Global, text: &str) -> Result<Vec<Vec<u8>>, Memory>
-    ensures { IfOk result (λ lines. bytes_of lines.items ≡ text.now) }
+/// Adds a line.
+fn add_line(alloc: Global, lines: &mut Vec<Vec<u8>>, line: &str) -> Result<(), Memory>
+    ensures { OnOk result (bytes_of lines.new.items ≡ bytes_of lines.old.items ++ line.now) }
 {
-    let mut lines = Vec::new(alloc);
-    lines.push(text.as_bytes().to_vec(alloc)?)?;
-    Ok(lines)
+    lines.push(line.as_bytes().to_vec(alloc)?)?;
+    Ok(())
 }
 
 /// Adds the lines of unproved goals.
@@ -211,30 +213,74 @@ fn lex_line(alloc: Global, fault: LexFault, at: &Pos) -> Result<String, Memory>
     Ok(format!(in alloc; "refused: lex {name} at {line}:{column}\n")?)
 }
 
+/// What stands before a type rule's number, so that it has two digits.
+fn zero_before(rule: u8) -> &'static str
+    ensures { result.now ≡ zero_before rule }
+{
+    if rule < 10 { "0" } else { "" }
+}
+
+/// The line of a broken type rule.
+fn rule_line(alloc: Global, rule: u8, at: &Pos) -> Result<String, Memory>
+    ensures { IfOk result (λ line. string_bytes line ≡ rule_line rule at.now) }
+{
+    let zero = zero_before(rule);
+    let line = at.line;
+    let column = at.col;
+    Ok(format!(in alloc; "refused: type T{zero}{rule} at {line}:{column}\n")?)
+}
+
+/// Adds the lines of a report that names unproved goals.
+fn add_unproved(
+    alloc: Global,
+    lines: &mut Vec<Vec<u8>>,
+    goals: u32,
+    list: &[GoalLine],
+) -> Result<(), Memory>
+    ensures { OnOk result (bytes_of lines.new.items
+        ≡ bytes_of lines.old.items ++ (unproved_line (length list.now) goals ++ flat_map goal_line list.now)) }
+{
+    add_line(
+        alloc,
+        lines,
+        unproved_line(alloc, list.len(), goals)?.as_str(),
+    )?;
+    add_goals(alloc, lines, list)
+}
+
+/// Adds the lines of a report.
+fn add_lines(alloc: Global, lines: &mut Vec<Vec<u8>>, report: &Report) -> Result<(), Memory>
+    ensures { OnOk result (bytes_of lines.new.items ≡ bytes_of lines.old.items ++ report_text report.now) }
+{
+    match report {
+        Report::Verified { goals } => add_line(
+            alloc,
+            lines,
+            verified_line(alloc, *goals)?.as_str(),
+        ),
+        Report::Unproved { goals, list } => add_unproved(alloc, lines, *goals, list.as_slice()),
+        Report::Usage => {
+            add_line(alloc, lines, "refused: usage\n")?;
+            add_line(alloc, lines, "usage: repliss verify FILE\n")
+        }
+        Report::ProgramBytes => add_line(alloc, lines, "refused: limit program bytes 262144\n"),
+        Report::Lex { fault, at } => add_line(alloc, lines, lex_line(alloc, *fault, at)?.as_str()),
+        Report::Syntax { at } => add_line(
+            alloc,
+            lines,
+            line_with_place(alloc, "refused: syntax", at)?.as_str(),
+        ),
+        Report::Depth => add_line(alloc, lines, "refused: limit depth 64\n"),
+        Report::Rule { rule, at } => add_line(alloc, lines, rule_line(alloc, *rule, at)?.as_str()),
+        Report::NotYet => add_line(alloc, lines, "refused: not yet\n"),
+    }
+}
+
 /// The lines of a report, each with its newline.
 pub fn lines(alloc: Global, report: &Report) -> Result<Vec<Vec<u8>>, Memory>
     ensures { IfOk result (λ lines. bytes_of lines.items ≡ report_text report.now) }
 {
-    match report {
-        Report::Verified { goals } => one(alloc, verified_line(alloc, *goals)?.as_str()),
-        Report::Unproved { goals, list } => {
-            let first = unproved_line(alloc, list.len(), *goals)?;
-            let mut lines = one(alloc, first.as_str())?;
-            add_goals(alloc, &mut lines, list.as_slice())?;
-            Ok(lines)
-        }
-        Report::Usage => {
-            let mut lines = one(alloc, "refused: usage\n")?;
-            lines.push("usage: repliss verify FILE\n".as_bytes().to_vec(alloc)?)?;
-            Ok(lines)
-        }
-        Report::ProgramBytes => one(alloc, "refused: limit program bytes 262144\n"),
-        Report::Lex { fault, at } => one(alloc, lex_line(alloc, *fault, at)?.as_str()),
-        Report::Syntax { at } => one(
-            alloc,
-            line_with_place(alloc, "refused: syntax", at)?.as_str(),
-        ),
-        Report::Depth => one(alloc, "refused: limit depth 64\n"),
-        Report::NotYet => one(alloc, "refused: not yet\n"),
-    }
+    let mut lines = Vec::new(alloc);
+    add_lines(alloc, &mut lines, report)?;
+    Ok(lines)
 }

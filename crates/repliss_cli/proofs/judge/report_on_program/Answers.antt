@@ -38,4 +38,4 @@ returns-in-Err-Goals c =
     past_text c.requires.short c.requires.read (past_limits (program_view c.args.program.now) _ c.in-Err-Goals.ensures.past (λ e. let is = c.in-Err-Goals.field-0-is in cc))
 
 pub verify-requires : goal.verify-requires
-verify-requires c = record { first_form = c.requires.read.2.plain }
+verify-requires c = record { first_form = c.requires.read.3.plain }

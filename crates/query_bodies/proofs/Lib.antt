@@ -1,0 +1,12 @@
+pub mod TermViews
+pub mod ClaimViews
+pub mod BodyLemmas
+pub mod Lifts
+pub mod Arms
+pub mod Grows
+pub mod Places
+pub mod Weights
+pub mod Gathered
+pub mod Shortened
+pub mod Used
+pub mod ShortenedUses

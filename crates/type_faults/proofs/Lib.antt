@@ -1,0 +1,9 @@
+pub mod Bound
+pub mod Entered
+pub mod Flows
+pub mod Forms
+pub mod Later
+pub mod Lists
+pub mod Meeting
+pub mod Named
+pub mod Walked

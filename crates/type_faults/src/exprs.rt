@@ -1,0 +1,348 @@
+//! The first faults of expressions.
+
+ghost use Rattle.std.specs.Prelude.{◌≡◌, ◌∷◌, ◌++◌, [], codes, false, true, IfOk, List};
+ghost use Rattle.std.specs.Option.{option_map};
+ghost use Rattle.rp_ast.specs.View as tree;
+ghost use Rattle.rp_ast.specs.declared.expr.AccessStep.TheViews.{out-AccessNode};
+ghost use Rattle.type_rules.specs.declared.kind.Kind.{Kind as TheKind};
+ghost use Rattle.type_rules.specs.Names.{Name};
+ghost use Rattle.type_rules.specs.Sites.{Site};
+ghost use Rattle.type_rules.specs.Starts.{word_at as spec_word_at};
+ghost use Rattle.type_rules.specs.Accesses.{args_of};
+ghost use Rattle.type_rules.specs.Flow.{in_pattern};
+ghost use Rattle.type_rules.specs.Matches.{cases_of as spec_cases_of};
+ghost use Rattle.type_rules.specs.ExprSites as spec;
+ghost use Rattle.type_tables.specs.Counts.{IsCounted};
+ghost use Rattle.type_terms.specs.Views.{IsTableOf, access_view, cases_view, way_view};
+ghost use Rattle.type_judges.specs.Places.{want_view};
+ghost use Rattle.type_faults.specs.Walks.{Follows, Walks, names_at, scope_at, seeing, stand_of};
+
+use crate::patterns::{add_arm, arm_table};
+use crate::walk::{Found, Walk};
+use rp_ast::{AccessNode, AccessStep, CallWord, CompareOp, ExprArm, ExprForm, ExprNode, Param};
+use rp_span::Span;
+use rp_value::Memory;
+use type_judges::{
+    Want, argument, bool_operand, bool_whole, held, int_operand, judge_arms, judge_place,
+    judge_statement, judge_written, left_want, matched, right_want, word_arg,
+};
+use type_rules::{Fault, Kind, Role};
+use type_tables::{NameTable, sooner};
+use type_terms::{
+    Access, Cases, Way, access_of, arg_kind, cases_of, key_kind, stepped, type_of, way_from,
+    word_at,
+};
+
+/// What the sides of a comparison are asked.
+#[derive(Clone, Copy)]
+struct Wants {
+    left: Want,
+    right: Want,
+}
+
+impl<'n, 'a> Walk<'n, 'a> {
+    /// The first fault of an expression itself.
+    fn place(&mut self, want: Want, e: &ExprNode) -> Found
+        ensures { (later : List Name) → IsCounted self.old.later later
+            → IfOk result (λ fault. Walks later self.old self.new fault
+            (λ p. Site.place (scope_at later p) (want_view want) (tree.expr_view e.now) ∷ []) (λ p. p.sight)) }
+    {
+        let here = judge_place(&self.scope(), want, e)?;
+        self.mark_expr(e)?;
+        Ok(here)
+    }
+
+    /// What the sides of a comparison are asked.
+    fn side_wants(&self, op: CompareOp, left: &ExprNode, right: &ExprNode) -> Result<Wants, Memory>
+        ensures left { IfOk result (λ wants. want_view wants.left ≡ spec.left_want (names_at self.now) self.now.vars op
+            (tree.expr_view left.now) (tree.expr_view right.now)) }
+        ensures right { IfOk result (λ wants. want_view wants.right ≡ spec.right_want (names_at self.now) self.now.vars op
+            (tree.expr_view left.now) (tree.expr_view right.now)) }
+    {
+        Ok(Wants {
+            left: left_want(self.names, &self.vars, op, left, right)?,
+            right: right_want(self.names, &self.vars, op, left, right)?,
+        })
+    }
+
+    /// A quantified variable comes in sight.
+    fn quantify(&mut self, param: &'a Param) -> Found
+        ensures { (later : List Name) → IsCounted self.old.later later
+            → IfOk result (λ fault. Walks later self.old self.new fault
+            (λ p. spec.quantified_sites (scope_at later p) (tree.param_view param.now))
+            (λ p. record p.sight { vars = p.sight.vars ++ spec.quantified_var p.names (tree.param_view param.now) ∷ [] })) }
+    {
+        let kind = self.names.kind_of(&param.ty)?;
+        let written = judge_written(self.names, self.decl, Role::Quantified, &param.ty)?;
+        let declared = self.bind(&param.name, kind)?;
+        Ok(sooner(declared, written))
+    }
+
+    /// The word `match` on a term of a type with these constructors.
+    fn match_word(&self, at: Span, cases: Option<Cases<'n, 'a>>, arms: &'a [ExprArm]) -> Found
+        ensures { (later : List Name) (kind : TheKind) → IsCounted self.now.later later
+            → option_map (cases_view (names_at self.now)) cases.entry ≡ spec_cases_of (names_at self.now) kind
+            → IfOk result (λ fault. Walks later self.now self.now fault
+            (λ p. Site.arms (spec_word_at (codes "match") at) kind (spec.arm_names (tree.expr_arms_view arms.now)) ∷ [])
+            (λ p. p.sight)) }
+    {
+        let all = arm_table(self.alloc, arms)?;
+        let word = word_at(b"match", at)?;
+        Ok(judge_arms(word, &all, cases))
+    }
+
+    /// The first fault of an expression.
+    #[cycle(exprs)]
+    pub(crate) fn expr(&mut self, want: Want, e: &'a ExprNode) -> Found
+        ensures { (later : List Name) → IsCounted self.old.later later
+            → IfOk result (λ fault. Walks later self.old self.new fault
+            (λ p. spec.expr_sites p.names (scope_at later p) (want_view want) (tree.expr_view e.now)) (λ p. p.sight)) }
+    {
+        let here = self.place(want, e)?;
+        let below = self.below(want, e)?;
+        Ok(sooner(here, below))
+    }
+
+    /// That of an expression which stands behind other places.
+    #[cycle(exprs)]
+    fn behind(&mut self, best: Option<Fault>, want: Want, e: &'a ExprNode) -> Found
+        ensures { (later : List Name) → IsCounted self.old.later later
+            → IfOk result (λ fault. Follows later self.old self.new best fault
+            (λ p. spec.expr_sites p.names (scope_at later p) (want_view want) (tree.expr_view e.now)) (λ p. p.sight)) }
+    {
+        let own = self.expr(want, e)?;
+        Ok(sooner(best, own))
+    }
+
+    /// The first fault below the expression itself.
+    #[cycle(exprs)]
+    fn below(&mut self, want: Want, e: &'a ExprNode) -> Found
+        ensures { (later : List Name) → IsCounted self.old.later later
+            → IfOk result (λ fault. Walks later self.old self.new fault
+            (λ p. spec.form_sites p.names (scope_at later p) (want_view want) e.now.span (tree.expr_form_view e.now.what))
+            (λ p. p.sight)) }
+    {
+        match &e.what {
+            ExprForm::Implies(left, right) => {
+                let first = self.expr(bool_operand(), left.get())?;
+                self.behind(first, bool_operand(), right.get())
+            }
+            ExprForm::Or(operands) => self.operands(operands.as_slice()),
+            ExprForm::And(operands) => self.operands(operands.as_slice()),
+            ExprForm::Not(operand) => self.expr(bool_operand(), operand.get()),
+            ExprForm::Forall(param, body) => self.quantified(body.get(), param.get()),
+            ExprForm::Exists(param, body) => self.quantified(body.get(), param.get()),
+            ExprForm::Compare(op, left, right) => {
+                let wants = self.side_wants(*op, left.get(), right.get())?;
+                let first = self.expr(wants.left, left.get())?;
+                self.behind(first, wants.right, right.get())
+            }
+            ExprForm::Plus(left, right) => {
+                let first = self.expr(int_operand(), left.get())?;
+                self.behind(first, int_operand(), right.get())
+            }
+            ExprForm::Minus(left, right) => {
+                let first = self.expr(int_operand(), left.get())?;
+                self.behind(first, int_operand(), right.get())
+            }
+            ExprForm::Int(_)
+            | ExprForm::Str(_)
+            | ExprForm::Truth(_)
+            | ExprForm::NoneWord
+            | ExprForm::Unreturned
+            | ExprForm::Tx => Ok(None),
+            ExprForm::SomeOf(inside) => self.expr(held(want.asked), inside.get()),
+            ExprForm::Call(word, args) => self.word(*word, args.as_slice()),
+            ExprForm::Match(term, arms) => {
+                let kind = type_of(self.names, &self.vars, None, term.get())?;
+                let first = self.expr(matched(), term.get())?;
+                self.arms(first, e.span, kind, arms.as_slice())
+            }
+            ExprForm::Access(access) => self.access(access.get()),
+        }
+    }
+
+    /// The operands of a chain.
+    #[cycle(exprs)]
+    fn operands(&mut self, operands: &'a [ExprNode]) -> Found
+        ensures { (later : List Name) → IsCounted self.old.later later
+            → IfOk result (λ fault. Walks later self.old self.new fault
+            (λ p. spec.operand_sites p.names (scope_at later p) (tree.exprs_view operands.now)) (λ p. p.sight)) }
+    {
+        let mut best = None;
+        for operand in operands {
+            best = sooner(best, self.expr(bool_operand(), operand)?);
+        }
+        Ok(best)
+    }
+
+    /// The body of a quantifier, with its variable.
+    #[cycle(exprs)]
+    fn quantified(&mut self, body: &'a ExprNode, param: &'a Param) -> Found
+        ensures { (later : List Name) → IsCounted self.old.later later
+            → IfOk result (λ fault. Walks later self.old self.new fault
+            (λ p. spec.quantified_sites (scope_at later p) (tree.param_view param.now) ++ spec.expr_sites p.names
+            (spec.with_var (scope_at later p) (spec.quantified_var p.names (tree.param_view param.now))) spec.bool_operand
+            (tree.expr_view body.now)) (λ p. p.sight)) }
+    {
+        let len = self.vars.len();
+        let here = self.quantify(param)?;
+        let below = self.expr(bool_operand(), body)?;
+        self.back_to(len);
+        Ok(sooner(here, below))
+    }
+
+    /// The arguments of a word. All are asked the same type, and one too many none.
+    #[cycle(exprs)]
+    fn word(&mut self, word: CallWord, args: &'a [ExprNode]) -> Found
+        ensures { (later : List Name) → IsCounted self.old.later later
+            → IfOk result (λ fault. Walks later self.old self.new fault
+            (λ p. spec.arg_sites p.names (scope_at later p) false (spec.word_args p.names p.sight.vars word
+            (tree.exprs_view args.now)) (tree.exprs_view args.now)) (λ p. p.sight)) }
+    {
+        let mut best = None;
+        for (place, arg) in args.iter().enumerate() {
+            let kind = word_arg(self.names, &self.vars, word, args, place)?;
+            best = sooner(best, self.expr(argument(false, kind), arg)?);
+        }
+        Ok(best)
+    }
+
+    /// The word `match` and the arms on a term of this type, behind the term.
+    #[cycle(exprs)]
+    fn arms(&mut self, best: Option<Fault>, at: Span, kind: Kind, arms: &'a [ExprArm]) -> Found
+        ensures { (later : List Name) → IsCounted self.old.later later
+            → IfOk result (λ fault. Follows later self.old self.new best fault
+            (λ p. Site.arms (spec_word_at (codes "match") at) kind (spec.arm_names (tree.expr_arms_view arms.now))
+            ∷ spec.arm_sites p.names (scope_at later p) kind [] (tree.expr_arms_view arms.now)) (λ p. p.sight)) }
+    {
+        let cases = cases_of(self.names, kind);
+        let word = self.match_word(at, cases, arms)?;
+        let below = self.each_arm(arms, cases)?;
+        Ok(sooner(best, sooner(word, below)))
+    }
+
+    #[cycle(exprs)]
+    fn each_arm(&mut self, arms: &'a [ExprArm], cases: Option<Cases<'n, 'a>>) -> Found
+        ensures { (later : List Name) (kind : TheKind) → IsCounted self.old.later later
+            → option_map (cases_view (names_at self.old)) cases.entry ≡ spec_cases_of (names_at self.old) kind
+            → IfOk result (λ fault. Walks later self.old self.new fault
+            (λ p. spec.arm_sites p.names (scope_at later p) kind [] (tree.expr_arms_view arms.now)) (λ p. p.sight)) }
+    {
+        let mut best = None;
+        let mut before = NameTable::new(self.alloc);
+        for arm in arms {
+            best = sooner(best, self.arm(arm, cases, &before)?);
+            add_arm(&mut before, &arm.pattern)?;
+        }
+        Ok(best)
+    }
+
+    #[cycle(exprs)]
+    fn arm(&mut self, arm: &'a ExprArm, cases: Option<Cases<'n, 'a>>, before: &NameTable) -> Found
+        ensures { (later : List Name) (kind : TheKind) (names : List Name) → IsCounted self.old.later later
+            → option_map (cases_view (names_at self.old)) cases.entry ≡ spec_cases_of (names_at self.old) kind
+            → IsTableOf before.now names
+            → IfOk result (λ fault. Walks later self.old self.new fault
+            (λ p. spec.pattern_sites p.names p.sight.vars kind names (tree.pattern_view arm.now.pattern)
+            ++ spec.expr_sites p.names (scope_at later (seeing p (in_pattern p.names p.sight kind
+            (tree.pattern_view arm.now.pattern)))) spec.bool_whole (tree.expr_view arm.now.body)) (λ p. p.sight)) }
+    {
+        let len = self.vars.len();
+        let here = self.pattern(cases, before, &arm.pattern)?;
+        let below = self.expr(bool_whole(), &arm.body)?;
+        self.back_to(len);
+        Ok(sooner(here, below))
+    }
+
+    /// The keys and the arguments of an access.
+    #[cycle(exprs)]
+    #[tactic(auto, using(rp_ast::proofs::ExprViews::expr_views))]
+    pub(crate) fn access(&mut self, access: &'a AccessNode) -> Found
+        ensures { (later : List Name) → IsCounted self.old.later later
+            → IfOk result (λ fault. Walks later self.old self.new fault
+            (λ p. spec.access_sites p.names (scope_at later p) (tree.access_view access.now)) (λ p. p.sight)) }
+    {
+        let what = access_of(self.names, &self.vars, access)?;
+        let way = way_from(self.names, &self.vars, &access.root);
+        let keys = self.keys(access.steps.as_slice(), way)?;
+        let args = self.given(access, what)?;
+        Ok(sooner(keys, args))
+    }
+
+    /// The keys of the steps that go on from there.
+    #[cycle(exprs)]
+    fn keys(&mut self, steps: &'a [AccessStep], way: Way<'a>) -> Found
+        ensures { (later : List Name) → IsCounted self.old.later later
+            → IfOk result (λ fault. Walks later self.old self.new fault
+            (λ p. spec.step_sites p.names (scope_at later p) (way_view p.names way.entry) (tree.steps_view steps.now))
+            (λ p. p.sight)) }
+    {
+        let mut way = way;
+        let mut best = None;
+        for step in steps {
+            best = sooner(best, self.key(step, way)?);
+            way = stepped(way, step)?;
+        }
+        Ok(best)
+    }
+
+    #[cycle(exprs)]
+    fn key(&mut self, step: &'a AccessStep, way: Way<'a>) -> Found
+        ensures { (later : List Name) → IsCounted self.old.later later
+            → IfOk result (λ fault. Walks later self.old self.new fault
+            (λ p. spec.key_sites p.names (scope_at later p) (way_view p.names way.entry) (tree.step_view step.now))
+            (λ p. p.sight)) }
+    {
+        match step {
+            AccessStep::Dot(_) => Ok(None),
+            AccessStep::Returned(_) => Ok(None),
+            AccessStep::Key(key) => {
+                let kind = key_kind(self.names, way)?;
+                self.expr(argument(true, kind), key)
+            }
+        }
+    }
+
+    /// The arguments in the parentheses of an access, which is this.
+    #[cycle(exprs)]
+    fn given(&mut self, access: &'a AccessNode, what: Access<'a>) -> Found
+        ensures { (later : List Name) → IsCounted self.old.later later
+            → IfOk result (λ fault. Walks later self.old self.new fault
+            (λ p. spec.given_sites p.names (scope_at later p) (args_of p.names (access_view p.names what.entry))
+            (tree.args_view (out-AccessNode access.now).args)) (λ p. p.sight)) }
+    {
+        match &access.args {
+            Some(args) => self.args(args.as_slice(), what),
+            None => Ok(None),
+        }
+    }
+
+    #[cycle(exprs)]
+    fn args(&mut self, args: &'a [ExprNode], what: Access<'a>) -> Found
+        ensures { (later : List Name) → IsCounted self.old.later later
+            → IfOk result (λ fault. Walks later self.old self.new fault
+            (λ p. spec.arg_sites p.names (scope_at later p) true (args_of p.names (access_view p.names what.entry))
+            (tree.exprs_view args.now)) (λ p. p.sight)) }
+    {
+        let mut best = None;
+        for (place, arg) in args.iter().enumerate() {
+            let kind = arg_kind(self.names, what, place)?;
+            best = sooner(best, self.expr(argument(true, kind), arg)?);
+        }
+        Ok(best)
+    }
+
+    /// The first fault of an access that is a statement.
+    pub(crate) fn statement(&mut self, access: &'a AccessNode) -> Found
+        ensures { (later : List Name) → IsCounted self.old.later later
+            → IfOk result (λ fault. Walks later self.old self.new fault
+            (λ p. Site.statement (scope_at later p) (tree.access_view access.now)
+            ∷ spec.access_sites p.names (scope_at later p) (tree.access_view access.now)) (λ p. p.sight)) }
+    {
+        let here = judge_statement(&self.scope(), access)?;
+        self.mark_access(access)?;
+        let below = self.access(access)?;
+        Ok(sooner(here, below))
+    }
+}
