@@ -8,6 +8,7 @@ use Rattle.type_rules.specs.Accesses.{args_of}
 use Rattle.type_rules.specs.Matches.{first_kind, pattern_kinds, pattern_name, pattern_vars}
 use Rattle.type_rules.specs.ExprSites.{left_want, quantified_var, right_want, word_args}
 use Rattle.type_rules.specs.Names.{param_type}
+use Rattle.type_rules.specs.Typing.{type_of}
 use Rattle.desugaring.specs.Appearances.{parts}
 use Rattle.type_terms.specs.Views.{access_view, way_view}
 use Rattle.text_kinds.specs.means.Brought.{args_bring, behind_pattern, form_brings, key_brings, steps_bring}
@@ -199,3 +200,40 @@ expr-returns-in_ok-expr-in-Compare t c =
     ∙ ap (form_brings n vs c.args.asked) (ap expr_form_view c.in-Compare.is ∙ expr_form_view-Compare op l r)
     ∙ sym (ap₂ (λ a b. expr_brings n vs a (expr_view l) ++ expr_brings n vs b (expr_view r)) first second)))
     c.expr-in-Compare-2.ensures
+
+pub keys-loop-step-preserved : goal.keys-loop-step-preserved
+keys-loop-step-preserved t c =
+    let start = c.args.self.now in
+    let old = c.loop-step.self in
+    let n = names_view start.kinds.names.now in
+    let steps = c.args.steps.now in
+    let i = c.loop-step.step-index in
+    let x = c.step-item.result in
+    let way = way_view n c.loop-step.way in
+    let f : Names → List Var → List Kind = λ m vs. key_brings m vs (way_view m c.loop-step.way) (step_view x) in
+    goes_on (seen start) (seen old) (seen c.key.new.self)
+    (steps_bring n start.vars way (steps_view (drop i steps))) (steps_bring n start.vars (way_view n c.in_ok-way.way) (steps_view (drop (i + 1) steps)))
+    (steps_bring n start.vars (way_view n c.args.way) (steps_view steps)) f c.loop-step.invariant
+    (ap (λ (xs : List AccessStep). steps_bring n start.vars way (steps_view xs)) (rest_is steps i x c.loop-step-test.true c.step-item.is)
+    ∙ ap (λ w. f n start.vars ++ steps_bring n start.vars w (steps_view (drop (i + 1) steps))) (sym (c.in_ok-way.ensures n)))
+    c.in_ok-key.ensures
+
+pub expr-returns-in_ok-expr-in-Match : goal.expr-returns-in_ok-expr-in-Match
+expr-returns-in_ok-expr-in-Match t c =
+    let start = seen c.args.self.now in
+    let n = start.kinds.names in
+    let vs = start.vars in
+    let mid = seen c.expr-in-Match.new.self in
+    let term = c.in-Match.term in
+    let kind : c.in_ok-kind-in-Match.kind ≡ type_of n vs None (expr_view term) =
+    c.in_ok-kind-in-Match.ensures
+    ∙ ap₂ (λ m (x : ExprNode). type_of m vs None (expr_view x)) (ap names_view c.names-in-Match.ensures) c.get-in-Match.ensures in
+    on_ok c.arms.result
+    (λ e. both_as start mid (seen c.arms.new.self)
+    (λ m ws. expr_brings m ws None (expr_view term)) (λ m ws. arms_bring m ws c.in_ok-kind-in-Match.kind (expr_arms_view c.in-Match.arms)) _
+    (c.in_ok-expr-in-Match.ensures ∙ ap (λ (x : ExprNode). sought start (expr_brings n vs None (expr_view x))) c.get-in-Match-2.ensures)
+    (e ∙ ap (λ (xs : List ExprArm). sought mid (arms_bring mid.kinds.names mid.vars c.in_ok-kind-in-Match.kind (expr_arms_view xs))) c.as_slice-in-Match.ensures.items)
+    (ap (expr_brings n vs c.args.asked) (expr_view-parts c.args.e.now)
+    ∙ ap (form_brings n vs c.args.asked) (ap expr_form_view c.in-Match.is ∙ expr_form_view-Match term c.in-Match.arms)
+    ∙ ap (λ k. expr_brings n vs None (expr_view term) ++ arms_bring n vs k (expr_arms_view c.in-Match.arms)) (sym kind)))
+    c.arms.ensures
