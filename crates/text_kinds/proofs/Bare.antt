@@ -1,20 +1,23 @@
 -- Which variables have values tells nothing of types.
 use Rattle.std.proofs.Common.{◌≡◌, ℕ, zero, suc, Bool, true, false, ◌&&◌, cond, List, [], ◌∷◌, ◌++◌, length, map, take, Option, Some, None, refl, sym, ap, ◌∙◌}
-use Rattle.std.specs.Option.{option_map}
+use Rattle.std.specs.Option.{option_map, option_map_or, unwrap_or}
+use Rattle.type_terms.specs.declared.cases.Case as code_case
+use Rattle.type_terms.specs.Views.{fields_of}
 use Rattle.std.proofs.lemmas.List.{append-nil, append_assoc, map-append, take-map}
 use Rattle.rp_grammar.specs.declared.operator.CompareOp.{CompareOp}
 use Rattle.rp_grammar.specs.declared.operator.CallWord.{CallWord}
 use Rattle.rp_grammar.specs.declared.operator.CallWord.TheVariants as called
-use Rattle.rp_grammar.specs.Trees.{Ident, ParamTree, ExprTree, ExprForm, ExprTrees, AccessTree, StepTree, StepTrees}
+use Rattle.rp_grammar.specs.Trees.{Ident, ParamTree, ExprTree, ExprForm, ExprTrees, AccessTree, StepTree, StepTrees, StmtForm, StmtTree, StmtTrees}
 use Rattle.type_rules.specs.declared.kind.Kind.{Kind}
 use Rattle.type_rules.specs.Names.{Name, Names, entry_named, same_name, text_of}
-use Rattle.type_rules.specs.Kinds.{is_open, maybe_of}
+use Rattle.type_rules.specs.Kinds.{is_open, kind_of, maybe_of}
 use Rattle.type_rules.specs.Accesses.{Var, access_kind, access_of, args_of, find_var, of_name}
 use Rattle.type_rules.specs.Typing.{asked_inside, form_type, type_of}
-use Rattle.type_rules.specs.Matches.{bound_var, first_kind, other_kinds, with_bound}
+use Rattle.type_rules.specs.Matches.{Case, bound_var, case_fields, first_kind, other_kinds, with_bound}
 use Rattle.type_rules.specs.Flow.{both, give, with_value}
 use Rattle.type_rules.specs.ExprSites.{before_kind, first_type, is_equality, left_asked, left_side, left_want, ordered_side, right_side, right_want, way_from, word_args}
 use Rattle.type_rules.specs.StmtSites.{var_kind}
+use Rattle.text_kinds.specs.means.Brought.{stmts_behind, vars_behind}
 use Rattle.type_rules.specs.Queries.{param_vars}
 
 -- as one that has a value
@@ -172,3 +175,36 @@ bares_left vs ws more e =
     front : (vs : List Var) (more : List Var) → take (length vs) (bares vs ++ more) ≡ bares vs
     front [] more = refl
     front (v ∷ vs) more = ap (λ ws. bare v ∷ ws) (front vs more)
+
+-- # Fields of constructors
+
+pub fields_are : (n : Names) (o : Option code_case.Case) (c : Option Case) → option_map (fields_of n) o ≡ option_map (λ case. case.fields) c
+    → option_map_or (fields_of n) o [] ≡ case_fields c
+fields_are n o c e = out o ∙ ap (λ x. unwrap_or x []) e ∙ sym (into c)
+  where
+    out : (o : Option code_case.Case) → option_map_or (fields_of n) o [] ≡ unwrap_or (option_map (fields_of n) o) []
+    out None = refl
+    out (Some x) = refl
+    into : (c : Option Case) → case_fields c ≡ unwrap_or (option_map (λ (case : Case). case.fields) c) []
+    into None = refl
+    into (Some x) = refl
+
+-- # Variables behind statements
+
+pub one_more : (n : Names) (vs : List Var) (s : StmtTree) → (more : List Var) × (vars_behind n vs s ≡ vs ++ more)
+one_more n vs (StmtTree.node at (StmtForm.var x t e)) = (bound_var x (kind_of n t) ∷ [], refl)
+one_more n vs (StmtTree.node at (StmtForm.new x t)) = ([], sym (append-nil vs))
+one_more n vs (StmtTree.node at (StmtForm.assign x e)) = ([], sym (append-nil vs))
+one_more n vs (StmtTree.node at (StmtForm.access a)) = ([], sym (append-nil vs))
+one_more n vs (StmtTree.node at (StmtForm.if_ e b other)) = ([], sym (append-nil vs))
+one_more n vs (StmtTree.node at (StmtForm.match e arms)) = ([], sym (append-nil vs))
+one_more n vs (StmtTree.node at (StmtForm.atomic b)) = ([], sym (append-nil vs))
+one_more n vs (StmtTree.node at (StmtForm.assert e)) = ([], sym (append-nil vs))
+one_more n vs (StmtTree.node at (StmtForm.return e)) = ([], sym (append-nil vs))
+
+pub behind_more : (n : Names) (vs : List Var) (stmts : StmtTrees) → (more : List Var) × (stmts_behind n vs stmts ≡ vs ++ more)
+behind_more n vs StmtTrees.no_stmts = ([], sym (append-nil vs))
+behind_more n vs (StmtTrees.more_stmts s stmts) =
+    let rest = behind_more n (vars_behind n vs s) stmts in
+    let first = one_more n vs s in
+    (first.0 ++ rest.0, rest.1 ∙ ap (λ z. z ++ rest.0) first.1 ∙ append_assoc vs first.0 rest.0)

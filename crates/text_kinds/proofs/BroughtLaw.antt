@@ -24,7 +24,7 @@ use Rattle.type_rules.specs.Queries.{param_var, param_vars}
 use Rattle.type_rules.specs.DeclSites.{declares_all, frame_for, named_all, param_sites, result_sites, scope_for, sight_for, written_all}
 use Rattle.desugaring.specs.Appearances.{datatypes_of, decl_kinds, kinds_from, parts, site_kinds, some_parts}
 use Rattle.text_kinds.specs.means.Brought.{access_brings, args_bring, arms_bring, behind_pattern, block_arm_brings, block_arms_bring, block_brings, decl_brings, decls_bring, else_brings, expr_brings, form_brings, given_brings, key_brings, operands_bring, params_bring, proc_brings, query_brings, result_brings, steps_bring, stmt_brings, stmts_behind, stmts_bring, type_count, value_brings, vars_behind, with_variable}
-use Rattle.text_kinds.proofs.Bare.{args_bare, bare, bares, bares_both, bares_bound, bares_dead, bares_given, bares_left, bares_more, bound_more, form_bare, left_bare, right_bare, type_bare, var_bare, way_bare, word_bare}
+use Rattle.text_kinds.proofs.Bare.{args_bare, bare, bares, bares_both, bares_bound, bares_dead, bares_given, bares_left, bares_more, behind_more, bound_more, form_bare, left_bare, one_more, right_bare, type_bare, var_bare, way_bare, word_bare}
 
 abbrev Brings : Names → List Site → List Kind → Type 0
 Brings n ss ks = flat_map (site_kinds n) ss ≡ ks
@@ -126,24 +126,6 @@ mutual
 
 abbrev vars_in : Sight → List Var
 vars_in g = bares g.vars
-
-one_more : (n : Names) (vs : List Var) (s : StmtTree) → (more : List Var) × (vars_behind n vs s ≡ vs ++ more)
-one_more n vs (StmtTree.node at (StmtForm.var x t e)) = (bound_var x (kind_of n t) ∷ [], refl)
-one_more n vs (StmtTree.node at (StmtForm.new x t)) = ([], sym (append-nil vs))
-one_more n vs (StmtTree.node at (StmtForm.assign x e)) = ([], sym (append-nil vs))
-one_more n vs (StmtTree.node at (StmtForm.access a)) = ([], sym (append-nil vs))
-one_more n vs (StmtTree.node at (StmtForm.if_ e b other)) = ([], sym (append-nil vs))
-one_more n vs (StmtTree.node at (StmtForm.match e arms)) = ([], sym (append-nil vs))
-one_more n vs (StmtTree.node at (StmtForm.atomic b)) = ([], sym (append-nil vs))
-one_more n vs (StmtTree.node at (StmtForm.assert e)) = ([], sym (append-nil vs))
-one_more n vs (StmtTree.node at (StmtForm.return e)) = ([], sym (append-nil vs))
-
-behind_more : (n : Names) (vs : List Var) (stmts : StmtTrees) → (more : List Var) × (stmts_behind n vs stmts ≡ vs ++ more)
-behind_more n vs StmtTrees.no_stmts = ([], sym (append-nil vs))
-behind_more n vs (StmtTrees.more_stmts s stmts) =
-    let rest = behind_more n (vars_behind n vs s) stmts in
-    let first = one_more n vs s in
-    (first.0 ++ rest.0, rest.1 ∙ ap (λ z. z ++ rest.0) first.1 ∙ append_assoc vs first.0 rest.0)
 
 mutual
   behind_law : (n : Names) (g : Sight) (s : StmtTree) → vars_in (after n g s) ≡ vars_behind n (vars_in g) s

@@ -107,3 +107,35 @@ left_sought a b c d vs more f long bound brought gone =
     gone
     ∙ ap (λ (s : Seen). seeing s (take (length a.vars) s.vars)) (brought ∙ ap (λ (s : Seen). sought s (f s.kinds.names s.vars)) bound)
     ∙ ap (seeing (sought a (f a.kinds.names vs))) (ap (take (length a.vars)) long ∙ left_seen a.vars more)
+
+pub three_as : (a b c d : Seen) (f g h : Names → List Var → List Kind) (whole : List Kind) → b ≡ sought a (f a.kinds.names a.vars)
+    → c ≡ sought b (g b.kinds.names b.vars) → d ≡ sought c (h c.kinds.names c.vars)
+    → whole ≡ f a.kinds.names a.vars ++ g a.kinds.names a.vars ++ h a.kinds.names a.vars → d ≡ sought a whole
+three_as a b c d f g h whole one two three same =
+    both_as a c d (λ m vs. f m vs ++ g m vs) h whole (both_sought a b c f g one two) three same
+
+-- behind a block that brought more variables in sight
+pub left_gained : (a b c : Seen) (ks : List Kind) (vs more : List Var) → vs ≡ a.vars ++ more → b ≡ seeing (sought a ks) vs
+    → c ≡ seeing b (take (length a.vars) b.vars) → c ≡ sought a ks
+left_gained a b c ks vs more long brought gone =
+    gone
+    ∙ ap (λ (s : Seen). seeing s (take (length a.vars) s.vars)) brought
+    ∙ ap (seeing (sought a ks)) (ap (take (length a.vars)) long ∙ left_seen a.vars more)
+
+-- a type, then variables, and a part in which these are in sight
+pub bound_behind : (a b c d : Seen) (ks : List Kind) (vs : List Var) (f : Names → List Var → List Kind) → b ≡ sought a ks
+    → c ≡ seeing b vs → d ≡ sought c (f c.kinds.names c.vars) → d ≡ seeing (sought a (ks ++ f a.kinds.names vs)) vs
+bound_behind a b c d ks vs f one bound other =
+    other
+    ∙ ap (λ (s : Seen). sought s (f s.kinds.names s.vars)) (bound ∙ ap (λ (s : Seen). seeing s vs) one)
+    ∙ ap (λ t. record { vars = vs; kinds = t }) (sym (kinds_both ks (f a.kinds.names vs) a.kinds))
+
+-- parameters, then a result, then a body
+pub declared_walk : (a b c d : Seen) (ks : List Kind) (vs : List Var) (f : Names → List Kind) (g : Names → List Var → List Kind)
+    → b ≡ seeing (sought a ks) vs → c ≡ sought b (f b.kinds.names) → d ≡ sought c (g c.kinds.names c.vars)
+    → d.kinds ≡ with_kinds (ks ++ f a.kinds.names ++ g a.kinds.names vs) a.kinds
+declared_walk a b c d ks vs f g begun one other =
+    ap (λ (s : Seen). s.kinds)
+    (both_sought b c d (λ m ws. f m) g one other ∙ ap (λ (s : Seen). sought s (f s.kinds.names ++ g s.kinds.names s.vars)) begun)
+    ∙ sym (kinds_both ks (f a.kinds.names ++ g a.kinds.names vs) a.kinds)
+    ∙ ap (λ js. with_kinds js a.kinds) (sym (append_assoc ks (f a.kinds.names) (g a.kinds.names vs)))

@@ -6,9 +6,10 @@ ghost use Rattle.rp_grammar.specs.Trees.{ParamTree};
 ghost use Rattle.type_rules.specs.Names.{param_type};
 ghost use Rattle.type_rules.specs.Kinds.{bool_kind, kind_of};
 ghost use Rattle.type_rules.specs.ExprSites as spec;
-ghost use Rattle.type_rules.specs.Matches.{bound_var};
+ghost use Rattle.std.specs.Option.{option_map_or};
+ghost use Rattle.type_rules.specs.Matches.{bound_var, pattern_kinds};
 ghost use Rattle.text_names.specs.Declarations.{names_view};
-ghost use Rattle.type_terms.specs.Views.{access_view, way_view};
+ghost use Rattle.type_terms.specs.Views.{access_view, fields_of, way_view};
 ghost use Rattle.type_rules.specs.Accesses.{args_of};
 ghost use Rattle.desugaring.specs.Appearances.{parts};
 ghost use Rattle.text_kinds.specs.Numbered.{numbered};
@@ -26,9 +27,19 @@ use type_judges::{left_want, right_want, word_arg};
 use type_rules::Kind;
 use type_tables::{BOOL_KIND, INT_KIND, VarItem, Vars};
 use type_terms::{
-    Access, Way, access_of, arg_kind, asked_inside, case_field, cases_of, find_case, key_kind, stepped, type_of,
+    Access, Case, Way, access_of, arg_kind, asked_inside, case_field, cases_of, find_case, key_kind, stepped, type_of,
     way_from,
 };
+
+/// The constructor of a type that a name stands for.
+fn case_of<'n, 'a>(names: &'n TextNames<'a>, kind: Kind, name: &[u8]) -> Option<Case<'a>>
+    ensures { option_map_or (fields_of (names_view names.now)) result [] ≡ pattern_kinds (names_view names.now) kind name.now }
+{
+    match cases_of(names, kind) {
+        Some(cases) => find_case(cases, name),
+        None => None,
+    }
+}
 
 /// Looks for datatypes, in the order of the text.
 #[derive(Drop)]
@@ -68,10 +79,7 @@ impl<'n, 'a> Seeker<'n, 'a> {
             (tree.pattern_view pattern.now))) }
     {
         let names = self.kinds.names();
-        let case = match cases_of(names, kind) {
-            Some(cases) => find_case(cases, pattern.con.text.as_slice()),
-            None => None,
-        };
+        let case = case_of(names, kind, pattern.con.text.as_slice());
         for (place, var) in pattern.vars.as_slice().iter().enumerate() {
             let field = case_field(names, case, place)?;
             self.bind(var, field)?;

@@ -1,19 +1,22 @@
 use Rattle.std.proofs.Common.{◌≡◌, ◌+◌, ◌++◌, List, [], ◌∷◌, Option, None, Some, drop, length, refl, take, ap, ap₂, sym, ◌∙◌}
 use Rattle.rp_ast.specs.declared.expr.AccessStep.{AccessStep}
-use Rattle.rp_ast.specs.View.{expr_form_view, param_view, pattern_view, step_view, steps_view}
-use Rattle.rp_ast.proofs.ExprViews.{expr_arm_view-parts, expr_form_view-Compare, expr_form_view-Exists, expr_form_view-Forall, expr_form_view-Implies, expr_form_view-Match, expr_form_view-Minus, expr_form_view-Plus, expr_form_view-SomeOf, expr_view-parts}
-use Rattle.rp_grammar.specs.Trees.{ExprArmTree, ExprForm}
+use Rattle.rp_ast.specs.declared.expr.AccessStep.TheViews.{out-AccessNode}
+use Rattle.rp_ast.specs.View as tree
+use Rattle.rp_ast.specs.View.{args_view, expr_form_view, ident_view, param_view, pattern_view, step_view, steps_view, type_view}
+use Rattle.rp_ast.proofs.ExprViews.{expr_arm_view-parts, expr_form_view-Compare, expr_form_view-Exists, expr_form_view-Forall, expr_form_view-Implies, expr_form_view-Match, expr_form_view-Minus, expr_form_view-Plus, expr_form_view-SomeOf, access_view-parts, expr_view-parts}
+use Rattle.rp_grammar.specs.Trees.{AccessTree, ExprArmTree, ExprForm, ParamTree}
 use Rattle.type_rules.specs.Kinds.{int_kind, kind_of}
-use Rattle.type_rules.specs.Accesses.{args_of}
-use Rattle.type_rules.specs.Matches.{first_kind, pattern_kinds, pattern_name, pattern_vars}
-use Rattle.type_rules.specs.ExprSites.{left_want, quantified_var, right_want, word_args}
+use Rattle.type_rules.specs.Accesses.{access_of, args_of, find_var}
+use Rattle.type_rules.specs.Matches.{bound_var, first_kind, pattern_kinds, pattern_name, pattern_vars}
+use Rattle.type_rules.specs.ExprSites.{left_want, quantified_var, right_want, way_from, word_args}
 use Rattle.type_rules.specs.Names.{param_type}
-use Rattle.type_rules.specs.Typing.{type_of}
+use Rattle.type_rules.specs.Typing.{asked_inside, form_type, type_of}
 use Rattle.desugaring.specs.Appearances.{parts}
 use Rattle.type_terms.specs.Views.{access_view, way_view}
-use Rattle.text_kinds.specs.means.Brought.{args_bring, behind_pattern, form_brings, key_brings, steps_bring}
+use Rattle.text_kinds.specs.Seen.{kinds_view}
+use Rattle.text_kinds.specs.means.Brought.{Seen, access_brings, args_bring, behind_pattern, form_brings, key_brings, steps_bring}
 use Rattle.text_kinds.proofs.Bare.{bound_more}
-use Rattle.text_kinds.proofs.Walks.{both_as, left_sought, other_dropped}
+use Rattle.text_kinds.proofs.Walks.{both_as, left_sought, other_dropped, sought_both}
 use Rattle.rp_ast.specs.declared.expr.ExprNode.{ExprNode}
 use Rattle.rp_ast.specs.declared.expr.ExprArm.{ExprArm}
 use Rattle.rp_ast.specs.View.{expr_arm_view, expr_arms_view, expr_view, exprs_view}
@@ -237,3 +240,76 @@ expr-returns-in_ok-expr-in-Match t c =
     ∙ ap (form_brings n vs c.args.asked) (ap expr_form_view c.in-Match.is ∙ expr_form_view-Match term c.in-Match.arms)
     ∙ ap (λ k. expr_brings n vs None (expr_view term) ++ arms_bring n vs k (expr_arms_view c.in-Match.arms)) (sym kind)))
     c.arms.ensures
+
+pub quantified-returns : goal.quantified-returns
+quantified-returns t c = λ p is.
+    let start = seen c.args.self.now in
+    let n = start.kinds.names in
+    let kind = c.in_ok-kind.kind in
+    let x = ident_view c.args.param.now.name in
+    let f : Names → List Var → List Kind = λ m ws. expr_brings m ws (Some bool_kind) (expr_view c.args.body.now) in
+    let own : kind ≡ kind_of n (type_view c.args.param.now.ty) =
+    c.in_ok-kind.ensures ∙ ap (λ m. kind_of (names_view m) (type_view c.args.param.now.ty)) c.names.ensures in
+    let mid : Seen = record start { kinds = kinds_view c.add.new.self } in
+    let vs = start.vars ++ bound_var x kind ∷ [] in
+    let added : mid ≡ sought start (parts n kind) = ap (λ table. record start { kinds = table }) c.in_ok-add.ensures in
+    left_sought mid (seen c.bind.new.self) (seen c.expr.new.self) (seen c.leave.new.self) vs (bound_var x kind ∷ []) f refl
+    c.in_ok-bind.ensures c.in_ok-expr.ensures
+    (c.leave.ensures ∙ ap (λ len. record { vars = take len c.expr.new.self.vars; kinds = (seen c.expr.new.self).kinds }) c.len-len.ensures)
+    ∙ ap (λ (s : Seen). sought s (f s.kinds.names vs)) added
+    ∙ sym (sought_both start (parts n kind) (f n vs))
+    ∙ ap (λ k. sought start (parts n k ++ f n (start.vars ++ bound_var x k ∷ []))) own
+    ∙ ap (λ (q : ParamTree). sought start (parts n (kind_of n (param_type q)) ++ f n (start.vars ++ quantified_var n q ∷ []))) (sym is)
+
+pub expr-returns-in_ok-add-in-SomeOf : goal.expr-returns-in_ok-add-in-SomeOf
+expr-returns-in_ok-add-in-SomeOf t c =
+    let start = seen c.args.self.now in
+    let n = start.kinds.names in
+    let vs = start.vars in
+    let asked = c.args.asked in
+    let kind = c.in_ok-kind-in-SomeOf.kind in
+    let inside = c.in-SomeOf.inside in
+    let form : expr_form_view c.args.e.now.what ≡ ExprForm.some_of (expr_view inside) = ap expr_form_view c.in-SomeOf.is ∙ expr_form_view-SomeOf inside in
+    let own : kind ≡ form_type n vs asked (ExprForm.some_of (expr_view inside)) =
+    c.in_ok-kind-in-SomeOf.ensures
+    ∙ ap (λ m. type_of (names_view m) vs asked (expr_view c.args.e.now)) c.names.ensures
+    ∙ ap (type_of n vs asked) (expr_view-parts c.args.e.now) ∙ ap (form_type n vs asked) form in
+    let mid : Seen = record start { kinds = kinds_view c.add.new.self } in
+    on_ok c.expr-in-SomeOf.result
+    (λ e. both_as start mid (seen c.expr-in-SomeOf.new.self)
+    (λ m ws. parts m kind) (λ m ws. expr_brings m ws (asked_inside asked) (expr_view inside)) _
+    (ap (λ table. record start { kinds = table }) c.in_ok-add-in-SomeOf.ensures)
+    (e ∙ ap₂ (λ o (x : ExprNode). sought mid (expr_brings mid.kinds.names mid.vars o (expr_view x))) c.asked_inside.ensures c.get-in-SomeOf.ensures)
+    (ap (expr_brings n vs asked) (expr_view-parts c.args.e.now) ∙ ap (form_brings n vs asked) form
+    ∙ ap (λ k. parts n k ++ expr_brings n vs (asked_inside asked) (expr_view inside)) (sym own)))
+    c.expr-in-SomeOf.ensures
+
+pub access-returns-in-Some : goal.access-returns-in-Some
+access-returns-in-Some t c =
+    let start = seen c.args.self.now in
+    let n = start.kinds.names in
+    let vs = start.vars in
+    let access = c.args.access.now in
+    let out = out-AccessNode access in
+    let root = ident_view out.root in
+    let steps = steps_view out.steps in
+    let args = exprs_view c.in-Some.args in
+    let way = c.way_from-way.result in
+    let what = c.in_ok-what.what in
+    let mid = seen c.keys.new.self in
+    let view : tree.access_view access ≡ AccessTree.path root steps (args_view (Some c.in-Some.args)) =
+    access_view-parts access ∙ ap (λ o. AccessTree.path root steps (args_view o)) c.in-Some.is in
+    let begun : way_view n way ≡ way_from n (find_var vs out.root.text) root =
+    ap (λ m. way_view (names_view m) way) (sym c.names-names.ensures) ∙ c.way_from-way.ensures
+    ∙ ap (λ m. way_from (names_view m) (find_var vs out.root.text) root) c.names-names.ensures in
+    let named : access_view n what ≡ access_of n vs (AccessTree.path root steps (args_view (Some c.in-Some.args))) =
+    ap (λ m. access_view (names_view m) what) (sym c.names-names.ensures) ∙ c.in_ok-what.ensures
+    ∙ ap (λ m. access_of (names_view m) vs (tree.access_view access)) c.names-names.ensures ∙ ap (access_of n vs) view in
+    on_ok c.args-in-Some.result
+    (λ e. both_as start mid (seen c.args-in-Some.new.self)
+    (λ m ws. steps_bring m ws (way_view m way) steps) (λ m ws. args_bring m ws (args_of m (access_view m what)) args) _
+    (c.in_ok-keys.ensures ∙ ap (λ (xs : List AccessStep). sought start (steps_bring n vs (way_view n way) (steps_view xs))) c.as_slice.ensures.items)
+    (e ∙ ap (λ (xs : List ExprNode). sought mid (args_bring mid.kinds.names mid.vars (args_of mid.kinds.names (access_view mid.kinds.names what)) (exprs_view xs))) c.as_slice-in-Some.ensures.items)
+    (ap (access_brings n vs) view
+    ∙ ap₂ (λ w a. steps_bring n vs w steps ++ args_bring n vs (args_of n a) args) (sym begun) (sym named)))
+    c.args-in-Some.ensures
