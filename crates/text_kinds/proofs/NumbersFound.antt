@@ -223,6 +223,20 @@ con_there n kinds k x r p q e h is =
     ∙ ap (option_and_then (behind (position_from (named x) 0 (unwrap_or (cases_of n k) [])))) e
     ∙ ap (λ o. option_map (λ q. r.first + q) o) h ∙ ap Some (sym is)
 
+-- a datatype that has no constructor of this name
+pub con_absent : (n : Names) (kinds : List Kind) (k : Kind) (x : Name) (r : Numbers) → numbers_in n 0 0 kinds k ≡ Some r
+    → position_from (λ (c : Case). same_name c.name x) 0 (unwrap_or (cases_of n k) []) ≡ None → con_place (numbered n kinds) k x ≡ None
+con_absent n kinds k x r e h =
+    con_number_is n kinds k x
+    ∙ ap (option_and_then (behind (position_from (named x) 0 (unwrap_or (cases_of n k) [])))) e
+    ∙ ap (λ o. option_map (λ q. r.first + q) o) h
+
+-- a type that isn't there
+pub con_nowhere : (n : Names) (kinds : List Kind) (k : Kind) (x : Name) → numbers_in n 0 0 kinds k ≡ None
+    → con_place (numbered n kinds) k x ≡ None
+con_nowhere n kinds k x e =
+    con_number_is n kinds k x ∙ ap (option_and_then (behind (position_from (named x) 0 (unwrap_or (cases_of n k) [])))) e
+
 pub cons_place : (n : Names) (cs : List ConNode) (x : Name) (k : ℕ)
     → place_from k (map (λ (con : ConNode). con.name.text) cs) x ≡ position_from (λ (c : Case). same_name c.name x) k (map (con_case n) (map con_view cs))
 cons_place n [] x k = refl

@@ -1,6 +1,6 @@
 //! The datatypes of a text by their numbers.
 
-ghost use Rattle.std.specs.Prelude.{◌≡◌, ◌++◌, ◌∷◌, [], IfOk, Some, flat_map, length, position, unwrap_or};
+ghost use Rattle.std.specs.Prelude.{◌≡◌, ◌<◌, ◌+◌, ◌++◌, ◌∷◌, [], IfOk, Some, flat_map, length, position, unwrap_or};
 ghost use Rattle.std.specs.List.{position_from};
 ghost use Rattle.type_rules.specs.Kinds.{bool_kind};
 ghost use Rattle.type_rules.specs.Names.{Names, same_name};
@@ -124,6 +124,14 @@ fn found_in(
     }
 }
 
+/// A sum that is known to be below an end.
+fn sum_below(first: u32, place: u32, _end: u32) -> u32
+    requires { first + place < _end }
+    ensures { result ≡ first + place }
+{
+    first + place
+}
+
 impl<'n, 'a> KindTable<'n, 'a> {
     /// `Bool` alone, which is datatype 0.
     pub fn new(alloc: Global, names: &'n TextNames<'a>) -> Result<KindTable<'n, 'a>, Memory>
@@ -186,19 +194,16 @@ impl<'n, 'a> KindTable<'n, 'a> {
         }
     }
 
-    /// The number of the datatype's constructor of this name. `Err` is that there is none, too.
-    pub fn con_number(&self, kind: Kind, name: &[u8]) -> Result<u32, Memory>
-        ensures { IfOk result (λ con. con_place (kinds_view self.now) kind name.now ≡ Some con) }
+    /// The number of the datatype's constructor of this name.
+    pub fn con_number(&self, kind: Kind, name: &[u8]) -> Option<u32>
+        ensures { result ≡ con_place (kinds_view self.now) kind name.now }
     {
         match self.numbers(kind) {
             Some(numbers) => match con_in(self.names, kind, name) {
-                Some(place) => match numbers.first.checked_add(place) {
-                    Some(con) => Ok(con),
-                    None => Err(Memory),
-                },
-                None => Err(Memory),
+                Some(place) => Some(sum_below(numbers.first, place, self.cons)),
+                None => None,
             },
-            None => Err(Memory),
+            None => None,
         }
     }
 }
