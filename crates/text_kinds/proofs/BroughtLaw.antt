@@ -11,14 +11,15 @@ use Rattle.type_rules.specs.declared.role.Role.{Role}
 use Rattle.type_rules.specs.declared.role.Role.TheVariants as role
 use Rattle.type_rules.specs.Names.{Name, Names, param_name, param_type, text_of, types_in}
 use Rattle.type_rules.specs.Kinds.{bool_kind, kind_of, param_kinds}
-use Rattle.type_rules.specs.Paths.{Way, stepped}
+use Rattle.type_rules.specs.Paths.{Way, key_kind, stepped}
 use Rattle.type_rules.specs.Accesses.{Var, access_of, args_of, find_var}
 use Rattle.type_rules.specs.Typing.{asked_inside, form_type, type_of}
 use Rattle.type_rules.specs.Sites.{Scope, Site, Want}
+use Rattle.type_rules.specs.Starts.{brace_of, word_at}
 use Rattle.type_rules.specs.Matches.{bound_sites, bound_var, first_kind, other_kinds, pattern_con, pattern_kinds, pattern_name, pattern_vars}
-use Rattle.type_rules.specs.ExprSites.{access_sites, arg_sites, arm_sites, asks, bool_operand, bool_whole, expr_sites, form_sites, given_sites, key_sites, left_want, operand_sites, quantified_var, right_want, step_sites, way_from, with_pattern, with_var, word_args}
+use Rattle.type_rules.specs.ExprSites.{access_sites, arg_sites, argument, arm_names, arm_sites, asks, bool_operand, bool_whole, expr_sites, form_sites, given_sites, held, int_operand, key_sites, left_want, matched, operand_sites, pattern_sites, quantified_sites, quantified_var, right_want, step_sites, way_from, with_pattern, with_var, word_args}
 use Rattle.type_rules.specs.StmtSites as stmt_sites
-use Rattle.type_rules.specs.StmtSites.{Frame, before_stmts, is_last, result_kind, scope_in, value_sites, var_kind}
+use Rattle.type_rules.specs.StmtSites.{Frame, before_stmts, is_last, is_there, result_kind, scope_in, value_for, value_sites, var_kind}
 use Rattle.type_rules.specs.Flow.{Sight, after, after_arm, after_arms, after_block, after_else, after_stmts, has_value, in_pattern, with_declared}
 use Rattle.type_rules.specs.Queries.{param_var, param_vars}
 use Rattle.type_rules.specs.DeclSites.{declares_all, frame_for, named_all, param_sites, result_sites, scope_for, sight_for, written_all}
@@ -39,6 +40,20 @@ bound_nothing n vs (x ∷ xs) ks = bound_nothing n (vs ++ bound_var x (first_kin
 
 -- # Expressions
 
+quantified_is : (n : Names) (sc : Scope) (q : ParamTree) (e : ExprTree)
+    → Brings n (expr_sites n (with_var sc (quantified_var n q)) bool_operand e)
+    (expr_brings n (bares (with_var sc (quantified_var n q)).vars) (Some bool_kind) e)
+    → Brings n (quantified_sites sc q ++ expr_sites n (with_var sc (quantified_var n q)) bool_operand e)
+    (parts n (kind_of n (param_type q)) ++ expr_brings n (bares sc.vars ++ quantified_var n q ∷ []) (Some bool_kind) e)
+quantified_is n sc q e body =
+    ap (λ z. parts n (kind_of n (param_type q)) ++ z)
+    (body ∙ ap (λ vs. expr_brings n vs (Some bool_kind) e) (bares_more sc.vars (quantified_var n q)))
+
+two_law : (n : Names) (sc : Scope) (w : Want) (a b : ExprTree) → Brings n (expr_sites n sc w a) (expr_brings n (bares sc.vars) w.asked a)
+    → Brings n (expr_sites n sc w b) (expr_brings n (bares sc.vars) w.asked b)
+    → Brings n (expr_sites n sc w a ++ expr_sites n sc w b) (expr_brings n (bares sc.vars) w.asked a ++ expr_brings n (bares sc.vars) w.asked b)
+two_law n sc w a b one other = join n (expr_sites n sc w a) (expr_sites n sc w b) _ _ one other
+
 mutual
   pub expr_law : (n : Names) (sc : Scope) (w : Want) (e : ExprTree) → Brings n (expr_sites n sc w e) (expr_brings n (bares sc.vars) w.asked e)
   expr_law n sc w (ExprTree.node at form) = form_law n sc w at form
@@ -46,56 +61,55 @@ mutual
   -- with the expression's own place
   form_law : (n : Names) (sc : Scope) (w : Want) (at : Span) (form : ExprForm)
       → Brings n (Site.place sc w (ExprTree.node at form) ∷ form_sites n sc w at form) (form_brings n (bares sc.vars) w.asked form)
-  form_law n sc w at (ExprForm.implies a b) = join n _ _ _ _ (expr_law n sc _ a) (expr_law n sc _ b)
+  form_law n sc w at (ExprForm.implies a b) = two_law n sc bool_operand a b (expr_law n sc bool_operand a) (expr_law n sc bool_operand b)
   form_law n sc w at (ExprForm.or es) = operands_law n sc es
   form_law n sc w at (ExprForm.and es) = operands_law n sc es
-  form_law n sc w at (ExprForm.not e) = expr_law n sc _ e
-  form_law n sc w at (ExprForm.forall q e) = quantified_law n sc q e
-  form_law n sc w at (ExprForm.exists q e) = quantified_law n sc q e
+  form_law n sc w at (ExprForm.not e) = expr_law n sc bool_operand e
+  form_law n sc w at (ExprForm.forall q e) = quantified_is n sc q e (expr_law n (with_var sc (quantified_var n q)) bool_operand e)
+  form_law n sc w at (ExprForm.exists q e) = quantified_is n sc q e (expr_law n (with_var sc (quantified_var n q)) bool_operand e)
   form_law n sc w at (ExprForm.compare c a b) =
-      join n _ _ _ _
+      join n (expr_sites n sc (left_want n sc.vars c a b) a) (expr_sites n sc (right_want n sc.vars c a b) b) _ _
       (expr_law n sc (left_want n sc.vars c a b) a ∙ ap (λ asked. expr_brings n (bares sc.vars) asked a) (sym (left_bare n sc.vars c a b)))
       (expr_law n sc (right_want n sc.vars c a b) b ∙ ap (λ asked. expr_brings n (bares sc.vars) asked b) (sym (right_bare n sc.vars c a b)))
-  form_law n sc w at (ExprForm.plus a b) = join n _ _ _ _ (expr_law n sc _ a) (expr_law n sc _ b)
-  form_law n sc w at (ExprForm.minus a b) = join n _ _ _ _ (expr_law n sc _ a) (expr_law n sc _ b)
+  form_law n sc w at (ExprForm.plus a b) = two_law n sc int_operand a b (expr_law n sc int_operand a) (expr_law n sc int_operand b)
+  form_law n sc w at (ExprForm.minus a b) = two_law n sc int_operand a b (expr_law n sc int_operand a) (expr_law n sc int_operand b)
   form_law n sc w at (ExprForm.int i) = refl
   form_law n sc w at (ExprForm.str bytes) = refl
   form_law n sc w at (ExprForm.truth b) = refl
   form_law n sc w at ExprForm.none_word = refl
   form_law n sc w at (ExprForm.some_of e) =
       ap (λ k. parts n k ++ flat_map (site_kinds n) (form_sites n sc w at (ExprForm.some_of e))) (sym (form_bare n sc.vars w.asked (ExprForm.some_of e)))
-      ∙ ap (λ z. parts n (form_type n (bares sc.vars) w.asked (ExprForm.some_of e)) ++ z) (expr_law n sc _ e)
+      ∙ ap (λ z. parts n (form_type n (bares sc.vars) w.asked (ExprForm.some_of e)) ++ z) (expr_law n sc (held w.asked) e)
   form_law n sc w at ExprForm.unreturned = refl
   form_law n sc w at ExprForm.tx = refl
   form_law n sc w at (ExprForm.call word es) =
       args_law n sc false (word_args n sc.vars word es) es ∙ ap (λ ks. args_bring n (bares sc.vars) ks es) (sym (word_bare n sc.vars word es))
   form_law n sc w at (ExprForm.match e arms) =
-      join n _ _ _ _ (expr_law n sc _ e)
+      join n (expr_sites n sc matched e)
+      (Site.arms (word_at (codes "match") at) (type_of n sc.vars None e) (arm_names arms) ∷ arm_sites n sc (type_of n sc.vars None e) [] arms) _ _
+      (expr_law n sc matched e)
       (arms_law n sc (type_of n sc.vars None e) [] arms ∙ ap (λ k. arms_bring n (bares sc.vars) k arms) (sym (type_bare n sc.vars None e)))
   form_law n sc w at (ExprForm.access a) = access_law n sc a
 
-  quantified_law : (n : Names) (sc : Scope) (q : ParamTree) (e : ExprTree)
-      → Brings n (Site.declares sc.vars (param_name q) ∷ Site.written sc.decl role.Quantified (param_type q) ∷ expr_sites n (with_var sc (quantified_var n q)) bool_operand e)
-      (parts n (kind_of n (param_type q)) ++ expr_brings n (bares sc.vars ++ quantified_var n q ∷ []) (Some bool_kind) e)
-  quantified_law n sc q e =
-      ap (λ z. parts n (kind_of n (param_type q)) ++ z)
-      (expr_law n (with_var sc (quantified_var n q)) bool_operand e ∙ ap (λ vs. expr_brings n vs (Some bool_kind) e) (bares_more sc.vars (quantified_var n q)))
-
   operands_law : (n : Names) (sc : Scope) (es : ExprTrees) → Brings n (operand_sites n sc es) (operands_bring n (bares sc.vars) es)
   operands_law n sc ExprTrees.no_exprs = refl
-  operands_law n sc (ExprTrees.more_exprs e es) = join n _ _ _ _ (expr_law n sc _ e) (operands_law n sc es)
+  operands_law n sc (ExprTrees.more_exprs e es) =
+      join n (expr_sites n sc bool_operand e) (operand_sites n sc es) _ _ (expr_law n sc bool_operand e) (operands_law n sc es)
 
   args_law : (n : Names) (sc : Scope) (plain : Bool) (ks : List Kind) (es : ExprTrees)
       → Brings n (arg_sites n sc plain ks es) (args_bring n (bares sc.vars) ks es)
   args_law n sc plain ks ExprTrees.no_exprs = refl
-  args_law n sc plain ks (ExprTrees.more_exprs e es) = join n _ _ _ _ (expr_law n sc _ e) (args_law n sc plain (other_kinds ks) es)
+  args_law n sc plain ks (ExprTrees.more_exprs e es) =
+      join n (expr_sites n sc (argument plain (first_kind ks)) e) (arg_sites n sc plain (other_kinds ks) es) _ _
+      (expr_law n sc (argument plain (first_kind ks)) e) (args_law n sc plain (other_kinds ks) es)
 
   arms_law : (n : Names) (sc : Scope) (k : Kind) (before : List Name) (arms : ExprArmTrees)
       → Brings n (arm_sites n sc k before arms) (arms_bring n (bares sc.vars) k arms)
   arms_law n sc k before ExprArmTrees.no_expr_arms = refl
   arms_law n sc k before (ExprArmTrees.more_expr_arms (ExprArmTree.arm q e) arms) =
-      join n _ _ _ _
-      (join n (bound_sites sc.vars (pattern_vars q) (pattern_kinds n k (pattern_name q))) _ [] _
+      join n (pattern_sites n sc.vars k before q ++ expr_sites n (with_pattern n sc k q) bool_whole e)
+      (arm_sites n sc k (pattern_name q ∷ before) arms) _ _
+      (join n (pattern_sites n sc.vars k before q) (expr_sites n (with_pattern n sc k q) bool_whole e) [] _
       (bound_nothing n sc.vars (pattern_vars q) (pattern_kinds n k (pattern_name q)))
       (expr_law n (with_pattern n sc k q) bool_whole e
       ∙ ap (λ vs. expr_brings n vs bool_whole.asked e) (bares_bound sc.vars (pattern_vars q) (pattern_kinds n k (pattern_name q)))))
@@ -103,7 +117,8 @@ mutual
 
   access_law : (n : Names) (sc : Scope) (a : AccessTree) → Brings n (access_sites n sc a) (access_brings n (bares sc.vars) a)
   access_law n sc (AccessTree.path x steps args) =
-      join n _ _ _ _
+      join n (step_sites n sc (way_from n (find_var sc.vars (text_of x)) x) steps)
+      (given_sites n sc (args_of n (access_of n sc.vars (AccessTree.path x steps args))) args) _ _
       (steps_law n sc (way_from n (find_var sc.vars (text_of x)) x) steps
       ∙ ap (λ way. steps_bring n (bares sc.vars) way steps) (sym (way_bare n sc.vars x)))
       (given_law n sc (args_of n (access_of n sc.vars (AccessTree.path x steps args))) args
@@ -111,12 +126,13 @@ mutual
 
   steps_law : (n : Names) (sc : Scope) (way : Way) (steps : StepTrees) → Brings n (step_sites n sc way steps) (steps_bring n (bares sc.vars) way steps)
   steps_law n sc way StepTrees.no_steps = refl
-  steps_law n sc way (StepTrees.more_steps s steps) = join n _ _ _ _ (key_law n sc way s) (steps_law n sc (stepped n way s) steps)
+  steps_law n sc way (StepTrees.more_steps s steps) =
+      join n (key_sites n sc way s) (step_sites n sc (stepped n way s) steps) _ _ (key_law n sc way s) (steps_law n sc (stepped n way s) steps)
 
   key_law : (n : Names) (sc : Scope) (way : Way) (s : StepTree) → Brings n (key_sites n sc way s) (key_brings n (bares sc.vars) way s)
   key_law n sc way (StepTree.dot x) = refl
   key_law n sc way (StepTree.returned at) = refl
-  key_law n sc way (StepTree.key e) = expr_law n sc _ e
+  key_law n sc way (StepTree.key e) = expr_law n sc (argument true (key_kind n way)) e
 
   given_law : (n : Names) (sc : Scope) (ks : List Kind) (args : ArgTrees) → Brings n (given_sites n sc ks args) (given_brings n (bares sc.vars) ks args)
   given_law n sc ks ArgTrees.absent = refl
@@ -187,12 +203,18 @@ mutual
   stmt_law n f g last (StmtTree.node at (StmtForm.var x t e)) = variable_law n f g x t e
   stmt_law n f g last (StmtTree.node at (StmtForm.new x t)) = refl
   stmt_law n f g last (StmtTree.node at (StmtForm.assign x e)) =
-      expr_law n (scope_in f g) _ e ∙ ap (λ k. expr_brings n (bares g.vars) (Some k) e) (sym (var_bare g.vars (text_of x)))
+      expr_law n (scope_in f g) (value_for (find_var g.vars (text_of x))) e ∙ ap (λ k. expr_brings n (bares g.vars) (Some k) e) (sym (var_bare g.vars (text_of x)))
   stmt_law n f g last (StmtTree.node at (StmtForm.access a)) = access_law n (scope_in f g) a
   stmt_law n f g last (StmtTree.node at (StmtForm.if_ e b other)) =
-      join n _ _ _ _ (join n _ _ _ _ (expr_law n (scope_in f g) bool_whole e) (block_law n f g b)) (else_law n f g other)
+      join n (expr_sites n (scope_in f g) bool_whole e ++ stmt_sites.block_sites n f g b) (stmt_sites.else_sites n f g other) _ _
+      (join n (expr_sites n (scope_in f g) bool_whole e) (stmt_sites.block_sites n f g b) _ _
+      (expr_law n (scope_in f g) bool_whole e) (block_law n f g b))
+      (else_law n f g other)
   stmt_law n f g last (StmtTree.node at (StmtForm.match e arms)) =
-      join n _ _ _ _ (expr_law n (scope_in f g) _ e)
+      join n (expr_sites n (scope_in f g) matched e)
+      (Site.arms (word_at (codes "match") at) (type_of n g.vars None e) (stmt_sites.arm_names arms)
+      ∷ stmt_sites.arm_sites n f g (type_of n g.vars None e) [] arms) _ _
+      (expr_law n (scope_in f g) matched e)
       (block_arms_law n f g (type_of n g.vars None e) [] arms
       ∙ ap (λ k. block_arms_bring n (bares g.vars) (result_kind f.result) k arms) (sym (type_bare n g.vars None e)))
   stmt_law n f g last (StmtTree.node at (StmtForm.atomic b)) = block_law n (record f { inside_atomic = true }) g b
@@ -204,7 +226,8 @@ mutual
       → Brings n (stmt_sites.stmts_sites n f g stmts) (stmts_bring n (bares g.vars) (result_kind f.result) stmts)
   stmts_law n f g StmtTrees.no_stmts = refl
   stmts_law n f g (StmtTrees.more_stmts s stmts) =
-      join n _ _ _ _ (stmt_law n (before_stmts f stmts) g (is_last stmts) s)
+      join n (stmt_sites.stmt_sites n (before_stmts f stmts) g (is_last stmts) s) (stmt_sites.stmts_sites n f (after n g s) stmts) _ _
+      (stmt_law n (before_stmts f stmts) g (is_last stmts) s)
       (stmts_law n f (after n g s) stmts
       ∙ ap (λ vs. stmts_bring n vs (result_kind f.result) stmts) (behind_law n g s))
 
@@ -222,8 +245,9 @@ mutual
       → Brings n (stmt_sites.arm_sites n f g k before arms) (block_arms_bring n (bares g.vars) (result_kind f.result) k arms)
   block_arms_law n f g k before BlockArmTrees.no_block_arms = refl
   block_arms_law n f g k before (BlockArmTrees.more_block_arms (BlockArmTree.arm q b) arms) =
-      join n _ _ _ _
-      (join n (bound_sites g.vars (pattern_vars q) (pattern_kinds n k (pattern_name q))) _ [] _
+      join n (pattern_sites n g.vars k before q ++ stmt_sites.block_sites n f (in_pattern n g k q) b)
+      (stmt_sites.arm_sites n f g k (pattern_name q ∷ before) arms) _ _
+      (join n (pattern_sites n g.vars k before q) (stmt_sites.block_sites n f (in_pattern n g k q) b) [] _
       (bound_nothing n g.vars (pattern_vars q) (pattern_kinds n k (pattern_name q)))
       (block_law n f (in_pattern n g k q) b
       ∙ ap (λ vs. block_brings n vs (result_kind f.result) b) (bares_bound g.vars (pattern_vars q) (pattern_kinds n k (pattern_name q)))))
@@ -264,14 +288,18 @@ decl_law n k type (DeclForm.datatype x cons) = refl
 decl_law n k type (DeclForm.crdt x c) = refl
 decl_law n k type (DeclForm.invariant x e) = expr_law n (scope_for n k true []) bool_whole e
 decl_law n k type (DeclForm.query (QueryTree.query x params result body)) =
-    join n _ _ _ _ (params_law n k _ params)
+    join n (param_sites n k role.QueryParam params)
+    (Site.written k role.QueryResult result ∷ expr_sites n (scope_for n k true params) (asks 21 (kind_of n result)) body) _ _
+    (params_law n k role.QueryParam params)
     (ap (λ z. parts n (kind_of n result) ++ z)
     (expr_law n (scope_for n k true params) (asks 21 (kind_of n result)) body
     ∙ ap (λ vs. expr_brings n vs (Some (kind_of n result)) body) (params_bare n params)))
     ∙ sym (append_assoc (params_bring n params) (parts n (kind_of n result)) _)
 decl_law n k type (DeclForm.proc (ProcTree.proc x params result body)) =
-    join n _ _ _ []
-    (join n _ _ _ _ (join n _ _ _ _ (params_law n k _ params) (result_law n k result))
+    join n (param_sites n k role.Variable params ++ result_sites k result ++ stmt_sites.block_sites n (frame_for n k result) (sight_for n params) body)
+    (Site.closes (after_block n (sight_for n params) body).live (is_there result) (brace_of body) ∷ []) _ []
+    (join n (param_sites n k role.Variable params ++ result_sites k result) (stmt_sites.block_sites n (frame_for n k result) (sight_for n params) body) _ _
+    (join n (param_sites n k role.Variable params) (result_sites k result) _ _ (params_law n k role.Variable params) (result_law n k result))
     (block_law n (frame_for n k result) (sight_for n params) body
     ∙ ap (λ vs. block_brings n vs (result_kind (option_map (kind_of n) result)) body) (params_bare n params)))
     refl
