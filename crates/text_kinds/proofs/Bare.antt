@@ -33,7 +33,8 @@ find_bare : (vs : List Var) (x : Name) → find_var (bares vs) x ≡ option_map 
 find_bare [] x = refl
 find_bare (v ∷ vs) x = by (same_name v.name x) (find_bare vs x)
   where
-    by : (b : Bool) → find_var (bares vs) x ≡ option_map bare (find_var vs x) → cond b (Some (bare v)) (find_var (bares vs) x) ≡ option_map bare (cond b (Some v) (find_var vs x))
+    by : (b : Bool) → find_var (bares vs) x ≡ option_map bare (find_var vs x) → cond b (Some (bare v)) (find_var (bares vs) x)
+        ≡ option_map bare (cond b (Some v) (find_var vs x))
     by true later = refl
     by false later = later
 
@@ -53,11 +54,13 @@ begun_bare : (n : Names) (x : Ident) (o : Option Var) → way_from n (option_map
 begun_bare n x None = refl
 begun_bare n x (Some v) = refl
 
-pub args_bare : (n : Names) (vs : List Var) (a : AccessTree) → args_of n (access_of n (bares vs) a) ≡ args_of n (access_of n vs a)
+pub args_bare : (n : Names) (vs : List Var) (a : AccessTree) → args_of n (access_of n (bares vs) a)
+    ≡ args_of n (access_of n vs a)
 args_bare n vs (AccessTree.path x steps args) =
     ap (λ o. args_of n (of_name n x steps o)) (find_bare vs (text_of x)) ∙ given_bare n x steps (find_var vs (text_of x))
 
-pub way_bare : (n : Names) (vs : List Var) (x : Ident) → way_from n (find_var (bares vs) (text_of x)) x ≡ way_from n (find_var vs (text_of x)) x
+pub way_bare : (n : Names) (vs : List Var) (x : Ident) → way_from n (find_var (bares vs) (text_of x)) x
+    ≡ way_from n (find_var vs (text_of x)) x
 way_bare n vs x = ap (λ o. way_from n o x) (find_bare vs (text_of x)) ∙ begun_bare n x (find_var vs (text_of x))
 
 pub var_bare : (vs : List Var) (x : Name) → var_kind (find_var (bares vs) x) ≡ var_kind (find_var vs x)
@@ -70,10 +73,12 @@ var_bare vs x = ap var_kind (find_bare vs x) ∙ by (find_var vs x)
 -- # Types
 
 mutual
-  pub type_bare : (n : Names) (vs : List Var) (asked : Option Kind) (e : ExprTree) → type_of n (bares vs) asked e ≡ type_of n vs asked e
+  pub type_bare : (n : Names) (vs : List Var) (asked : Option Kind) (e : ExprTree) → type_of n (bares vs) asked e
+      ≡ type_of n vs asked e
   type_bare n vs asked (ExprTree.node at form) = form_bare n vs asked form
 
-  pub form_bare : (n : Names) (vs : List Var) (asked : Option Kind) (form : ExprForm) → form_type n (bares vs) asked form ≡ form_type n vs asked form
+  pub form_bare : (n : Names) (vs : List Var) (asked : Option Kind) (form : ExprForm) → form_type n (bares vs) asked form
+      ≡ form_type n vs asked form
   form_bare n vs asked (ExprForm.some_of e) = ap maybe_of (type_bare n vs (asked_inside asked) e)
   form_bare n vs asked (ExprForm.access (AccessTree.path x steps args)) =
       ap (λ o. access_kind n (of_name n x steps o)) (find_bare vs (text_of x)) ∙ kind_bare n x steps (find_var vs (text_of x))
@@ -100,17 +105,20 @@ asked_bare n vs a b =
     ap (λ (k : Kind). cond (is_open k.base) (Some (type_of n (bares vs) None b)) None) (type_bare n vs None a)
     ∙ ap (λ k. cond (is_open (type_of n vs None a).base) (Some k) None) (type_bare n vs None b)
 
-pub left_bare : (n : Names) (vs : List Var) (c : CompareOp) (a b : ExprTree) → (left_want n (bares vs) c a b).asked ≡ (left_want n vs c a b).asked
+pub left_bare : (n : Names) (vs : List Var) (c : CompareOp) (a b : ExprTree) → (left_want n (bares vs) c a b).asked
+    ≡ (left_want n vs c a b).asked
 left_bare n vs c a b = by (is_equality c)
   where
     by : (t : Bool) → (cond t (left_side n (bares vs) a b) ordered_side).asked ≡ (cond t (left_side n vs a b) ordered_side).asked
     by true = asked_bare n vs a b
     by false = refl
 
-pub right_bare : (n : Names) (vs : List Var) (c : CompareOp) (a b : ExprTree) → (right_want n (bares vs) c a b).asked ≡ (right_want n vs c a b).asked
+pub right_bare : (n : Names) (vs : List Var) (c : CompareOp) (a b : ExprTree) → (right_want n (bares vs) c a b).asked
+    ≡ (right_want n vs c a b).asked
 right_bare n vs c a b = by (is_equality c)
   where
-    by : (t : Bool) → (cond t (right_side n (bares vs) a b) ordered_side).asked ≡ (cond t (right_side n vs a b) ordered_side).asked
+    by : (t : Bool) → (cond t (right_side n (bares vs) a b) ordered_side).asked
+        ≡ (cond t (right_side n vs a b) ordered_side).asked
     by true =
         ap (λ o. Some (type_of n (bares vs) o a)) (asked_bare n vs a b) ∙ ap Some (type_bare n vs (left_asked n vs a b) a)
     by false = refl
@@ -178,13 +186,15 @@ bares_left vs ws more e =
 
 -- # Fields of constructors
 
-pub fields_are : (n : Names) (o : Option code_case.Case) (c : Option Case) → option_map (fields_of n) o ≡ option_map (λ case. case.fields) c
+pub fields_are : (n : Names) (o : Option code_case.Case) (c : Option Case) → option_map (fields_of n) o
+    ≡ option_map (λ case. case.fields) c
     → option_map_or (fields_of n) o [] ≡ case_fields c
 fields_are n o c e = out o ∙ ap (λ x. unwrap_or x []) e ∙ sym (into c)
   where
     out : (o : Option code_case.Case) → option_map_or (fields_of n) o [] ≡ unwrap_or (option_map (fields_of n) o) []
     out None = refl
     out (Some x) = refl
+
     into : (c : Option Case) → case_fields c ≡ unwrap_or (option_map (λ (case : Case). case.fields) c) []
     into None = refl
     into (Some x) = refl

@@ -49,49 +49,65 @@ quantified_is n sc q e body =
     ap (λ z. parts n (kind_of n (param_type q)) ++ z)
     (body ∙ ap (λ vs. expr_brings n vs (Some bool_kind) e) (bares_more sc.vars (quantified_var n q)))
 
-two_law : (n : Names) (sc : Scope) (w : Want) (a b : ExprTree) → Brings n (expr_sites n sc w a) (expr_brings n (bares sc.vars) w.asked a)
+two_law : (n : Names) (sc : Scope) (w : Want) (a b : ExprTree) → Brings n (expr_sites n sc w a)
+    (expr_brings n (bares sc.vars) w.asked a)
     → Brings n (expr_sites n sc w b) (expr_brings n (bares sc.vars) w.asked b)
-    → Brings n (expr_sites n sc w a ++ expr_sites n sc w b) (expr_brings n (bares sc.vars) w.asked a ++ expr_brings n (bares sc.vars) w.asked b)
+    → Brings n (expr_sites n sc w a ++ expr_sites n sc w b) (expr_brings n (bares sc.vars) w.asked a
+    ++ expr_brings n (bares sc.vars) w.asked b)
 two_law n sc w a b one other = join n (expr_sites n sc w a) (expr_sites n sc w b) _ _ one other
 
 mutual
-  pub expr_law : (n : Names) (sc : Scope) (w : Want) (e : ExprTree) → Brings n (expr_sites n sc w e) (expr_brings n (bares sc.vars) w.asked e)
+  pub expr_law : (n : Names) (sc : Scope) (w : Want) (e : ExprTree) → Brings n (expr_sites n sc w e)
+      (expr_brings n (bares sc.vars) w.asked e)
   expr_law n sc w (ExprTree.node at form) = form_law n sc w at form
 
   -- with the expression's own place
   form_law : (n : Names) (sc : Scope) (w : Want) (at : Span) (form : ExprForm)
-      → Brings n (Site.place sc w (ExprTree.node at form) ∷ form_sites n sc w at form) (form_brings n (bares sc.vars) w.asked form)
-  form_law n sc w at (ExprForm.implies a b) = two_law n sc bool_operand a b (expr_law n sc bool_operand a) (expr_law n sc bool_operand b)
+      → Brings n (Site.place sc w (ExprTree.node at form) ∷ form_sites n sc w at form)
+      (form_brings n (bares sc.vars) w.asked form)
+  form_law n sc w at (ExprForm.implies a b) = two_law n sc bool_operand a b (expr_law n sc bool_operand a)
+      (expr_law n sc bool_operand b)
   form_law n sc w at (ExprForm.or es) = operands_law n sc es
   form_law n sc w at (ExprForm.and es) = operands_law n sc es
   form_law n sc w at (ExprForm.not e) = expr_law n sc bool_operand e
-  form_law n sc w at (ExprForm.forall q e) = quantified_is n sc q e (expr_law n (with_var sc (quantified_var n q)) bool_operand e)
-  form_law n sc w at (ExprForm.exists q e) = quantified_is n sc q e (expr_law n (with_var sc (quantified_var n q)) bool_operand e)
+  form_law n sc w at (ExprForm.forall q e) = quantified_is n sc q e
+      (expr_law n (with_var sc (quantified_var n q)) bool_operand e)
+  form_law n sc w at (ExprForm.exists q e) = quantified_is n sc q e
+      (expr_law n (with_var sc (quantified_var n q)) bool_operand e)
   form_law n sc w at (ExprForm.compare c a b) =
       join n (expr_sites n sc (left_want n sc.vars c a b) a) (expr_sites n sc (right_want n sc.vars c a b) b) _ _
-      (expr_law n sc (left_want n sc.vars c a b) a ∙ ap (λ asked. expr_brings n (bares sc.vars) asked a) (sym (left_bare n sc.vars c a b)))
-      (expr_law n sc (right_want n sc.vars c a b) b ∙ ap (λ asked. expr_brings n (bares sc.vars) asked b) (sym (right_bare n sc.vars c a b)))
-  form_law n sc w at (ExprForm.plus a b) = two_law n sc int_operand a b (expr_law n sc int_operand a) (expr_law n sc int_operand b)
-  form_law n sc w at (ExprForm.minus a b) = two_law n sc int_operand a b (expr_law n sc int_operand a) (expr_law n sc int_operand b)
+      (expr_law n sc (left_want n sc.vars c a b) a ∙ ap (λ asked. expr_brings n (bares sc.vars) asked a)
+      (sym (left_bare n sc.vars c a b)))
+      (expr_law n sc (right_want n sc.vars c a b) b ∙ ap (λ asked. expr_brings n (bares sc.vars) asked b)
+      (sym (right_bare n sc.vars c a b)))
+  form_law n sc w at (ExprForm.plus a b) = two_law n sc int_operand a b (expr_law n sc int_operand a)
+      (expr_law n sc int_operand b)
+  form_law n sc w at (ExprForm.minus a b) = two_law n sc int_operand a b (expr_law n sc int_operand a)
+      (expr_law n sc int_operand b)
   form_law n sc w at (ExprForm.int i) = refl
   form_law n sc w at (ExprForm.str bytes) = refl
   form_law n sc w at (ExprForm.truth b) = refl
   form_law n sc w at ExprForm.none_word = refl
   form_law n sc w at (ExprForm.some_of e) =
-      ap (λ k. parts n k ++ flat_map (site_kinds n) (form_sites n sc w at (ExprForm.some_of e))) (sym (form_bare n sc.vars w.asked (ExprForm.some_of e)))
+      ap (λ k. parts n k ++ flat_map (site_kinds n) (form_sites n sc w at (ExprForm.some_of e)))
+      (sym (form_bare n sc.vars w.asked (ExprForm.some_of e)))
       ∙ ap (λ z. parts n (form_type n (bares sc.vars) w.asked (ExprForm.some_of e)) ++ z) (expr_law n sc (held w.asked) e)
   form_law n sc w at ExprForm.unreturned = refl
   form_law n sc w at ExprForm.tx = refl
   form_law n sc w at (ExprForm.call word es) =
-      args_law n sc false (word_args n sc.vars word es) es ∙ ap (λ ks. args_bring n (bares sc.vars) ks es) (sym (word_bare n sc.vars word es))
+      args_law n sc false (word_args n sc.vars word es) es ∙ ap (λ ks. args_bring n (bares sc.vars) ks es)
+      (sym (word_bare n sc.vars word es))
   form_law n sc w at (ExprForm.match e arms) =
       join n (expr_sites n sc matched e)
-      (Site.arms (word_at (codes "match") at) (type_of n sc.vars None e) (arm_names arms) ∷ arm_sites n sc (type_of n sc.vars None e) [] arms) _ _
+      (Site.arms (word_at (codes "match") at) (type_of n sc.vars None e) (arm_names arms)
+      ∷ arm_sites n sc (type_of n sc.vars None e) [] arms) _ _
       (expr_law n sc matched e)
-      (arms_law n sc (type_of n sc.vars None e) [] arms ∙ ap (λ k. arms_bring n (bares sc.vars) k arms) (sym (type_bare n sc.vars None e)))
+      (arms_law n sc (type_of n sc.vars None e) [] arms ∙ ap (λ k. arms_bring n (bares sc.vars) k arms)
+      (sym (type_bare n sc.vars None e)))
   form_law n sc w at (ExprForm.access a) = access_law n sc a
 
-  operands_law : (n : Names) (sc : Scope) (es : ExprTrees) → Brings n (operand_sites n sc es) (operands_bring n (bares sc.vars) es)
+  operands_law : (n : Names) (sc : Scope) (es : ExprTrees) → Brings n (operand_sites n sc es)
+      (operands_bring n (bares sc.vars) es)
   operands_law n sc ExprTrees.no_exprs = refl
   operands_law n sc (ExprTrees.more_exprs e es) =
       join n (expr_sites n sc bool_operand e) (operand_sites n sc es) _ _ (expr_law n sc bool_operand e) (operands_law n sc es)
@@ -112,7 +128,8 @@ mutual
       (join n (pattern_sites n sc.vars k before q) (expr_sites n (with_pattern n sc k q) bool_whole e) [] _
       (bound_nothing n sc.vars (pattern_vars q) (pattern_kinds n k (pattern_name q)))
       (expr_law n (with_pattern n sc k q) bool_whole e
-      ∙ ap (λ vs. expr_brings n vs bool_whole.asked e) (bares_bound sc.vars (pattern_vars q) (pattern_kinds n k (pattern_name q)))))
+      ∙ ap (λ vs. expr_brings n vs bool_whole.asked e)
+      (bares_bound sc.vars (pattern_vars q) (pattern_kinds n k (pattern_name q)))))
       (arms_law n sc k (pattern_name q ∷ before) arms)
 
   access_law : (n : Names) (sc : Scope) (a : AccessTree) → Brings n (access_sites n sc a) (access_brings n (bares sc.vars) a)
@@ -124,17 +141,21 @@ mutual
       (given_law n sc (args_of n (access_of n sc.vars (AccessTree.path x steps args))) args
       ∙ ap (λ ks. given_brings n (bares sc.vars) ks args) (sym (args_bare n sc.vars (AccessTree.path x steps args))))
 
-  steps_law : (n : Names) (sc : Scope) (way : Way) (steps : StepTrees) → Brings n (step_sites n sc way steps) (steps_bring n (bares sc.vars) way steps)
+  steps_law : (n : Names) (sc : Scope) (way : Way) (steps : StepTrees) → Brings n (step_sites n sc way steps)
+      (steps_bring n (bares sc.vars) way steps)
   steps_law n sc way StepTrees.no_steps = refl
   steps_law n sc way (StepTrees.more_steps s steps) =
-      join n (key_sites n sc way s) (step_sites n sc (stepped n way s) steps) _ _ (key_law n sc way s) (steps_law n sc (stepped n way s) steps)
+      join n (key_sites n sc way s) (step_sites n sc (stepped n way s) steps) _ _ (key_law n sc way s)
+      (steps_law n sc (stepped n way s) steps)
 
-  key_law : (n : Names) (sc : Scope) (way : Way) (s : StepTree) → Brings n (key_sites n sc way s) (key_brings n (bares sc.vars) way s)
+  key_law : (n : Names) (sc : Scope) (way : Way) (s : StepTree) → Brings n (key_sites n sc way s)
+      (key_brings n (bares sc.vars) way s)
   key_law n sc way (StepTree.dot x) = refl
   key_law n sc way (StepTree.returned at) = refl
   key_law n sc way (StepTree.key e) = expr_law n sc (argument true (key_kind n way)) e
 
-  given_law : (n : Names) (sc : Scope) (ks : List Kind) (args : ArgTrees) → Brings n (given_sites n sc ks args) (given_brings n (bares sc.vars) ks args)
+  given_law : (n : Names) (sc : Scope) (ks : List Kind) (args : ArgTrees) → Brings n (given_sites n sc ks args)
+      (given_brings n (bares sc.vars) ks args)
   given_law n sc ks ArgTrees.absent = refl
   given_law n sc ks (ArgTrees.given es) = args_law n sc true ks es
 
@@ -149,14 +170,15 @@ mutual
   behind_law n g (StmtTree.node at (StmtForm.new x t)) = bares_given (text_of x) g.vars
   behind_law n g (StmtTree.node at (StmtForm.assign x e)) = bares_given (text_of x) g.vars
   behind_law n g (StmtTree.node at (StmtForm.access a)) = refl
-  behind_law n g (StmtTree.node at (StmtForm.if_ e b other)) = 
+  behind_law n g (StmtTree.node at (StmtForm.if_ e b other)) =
       let rest = else_behind n g other in bares_both _ _ _ rest.0 (block_behind n g b) rest.1
   behind_law n g (StmtTree.node at (StmtForm.match e arms)) = arms_behind n g _ arms
   behind_law n g (StmtTree.node at (StmtForm.atomic b)) = block_behind n g b
   behind_law n g (StmtTree.node at (StmtForm.assert e)) = refl
   behind_law n g (StmtTree.node at (StmtForm.return e)) = bares_dead g.vars
 
-  stmts_behind_law : (n : Names) (g : Sight) (stmts : StmtTrees) → vars_in (after_stmts n g stmts) ≡ stmts_behind n (vars_in g) stmts
+  stmts_behind_law : (n : Names) (g : Sight) (stmts : StmtTrees) → vars_in (after_stmts n g stmts)
+      ≡ stmts_behind n (vars_in g) stmts
   stmts_behind_law n g StmtTrees.no_stmts = refl
   stmts_behind_law n g (StmtTrees.more_stmts s stmts) =
       stmts_behind_law n (after n g s) stmts ∙ ap (λ vs. stmts_behind n vs stmts) (behind_law n g s)
@@ -166,7 +188,8 @@ mutual
       let more = behind_more n (vars_in g) stmts in
       bares_left g.vars (after_stmts n g stmts).vars more.0 (stmts_behind_law n g stmts ∙ more.1)
 
-  else_behind : (n : Names) (g : Sight) (other : ElseTree) → (more : List Var) × (vars_in (after_else n g other) ≡ vars_in g ++ more)
+  else_behind : (n : Names) (g : Sight) (other : ElseTree) → (more : List Var) × (vars_in (after_else n g other) ≡ vars_in g
+      ++ more)
   else_behind n g ElseTree.no_else = ([], sym (append-nil (vars_in g)))
   else_behind n g (ElseTree.else_block b) = ([], block_behind n g b ∙ sym (append-nil (vars_in g)))
   else_behind n g (ElseTree.else_if s) = let more = one_more n (vars_in g) s in (more.0, behind_law n g s ∙ more.1)
@@ -191,7 +214,8 @@ value_law n sc w k None asked = refl
 value_law n sc w k (Some e) asked = expr_law n sc w e ∙ ap (λ o. expr_brings n (bares sc.vars) o e) asked
 
 variable_law : (n : Names) (f : Frame) (g : Sight) (x : Ident) (t : TypeTree) (e : Option ExprTree)
-    → Brings n (stmt_sites.var_sites n f g x t e) (parts n (kind_of n t) ++ value_brings n (with_variable n (bares g.vars) x t) (kind_of n t) e)
+    → Brings n (stmt_sites.var_sites n f g x t e) (parts n (kind_of n t) ++ value_brings n (with_variable n (bares g.vars) x t)
+    (kind_of n t) e)
 variable_law n f g x t e =
     ap (λ z. parts n (kind_of n t) ++ z)
     (value_law n (scope_in f (with_declared n g false x t)) (asks 23 (kind_of n t)) (kind_of n t) e refl
@@ -203,7 +227,8 @@ mutual
   stmt_law n f g last (StmtTree.node at (StmtForm.var x t e)) = variable_law n f g x t e
   stmt_law n f g last (StmtTree.node at (StmtForm.new x t)) = refl
   stmt_law n f g last (StmtTree.node at (StmtForm.assign x e)) =
-      expr_law n (scope_in f g) (value_for (find_var g.vars (text_of x))) e ∙ ap (λ k. expr_brings n (bares g.vars) (Some k) e) (sym (var_bare g.vars (text_of x)))
+      expr_law n (scope_in f g) (value_for (find_var g.vars (text_of x))) e ∙ ap (λ k. expr_brings n (bares g.vars) (Some k) e)
+      (sym (var_bare g.vars (text_of x)))
   stmt_law n f g last (StmtTree.node at (StmtForm.access a)) = access_law n (scope_in f g) a
   stmt_law n f g last (StmtTree.node at (StmtForm.if_ e b other)) =
       join n (expr_sites n (scope_in f g) bool_whole e ++ stmt_sites.block_sites n f g b) (stmt_sites.else_sites n f g other) _ _
@@ -226,7 +251,8 @@ mutual
       → Brings n (stmt_sites.stmts_sites n f g stmts) (stmts_bring n (bares g.vars) (result_kind f.result) stmts)
   stmts_law n f g StmtTrees.no_stmts = refl
   stmts_law n f g (StmtTrees.more_stmts s stmts) =
-      join n (stmt_sites.stmt_sites n (before_stmts f stmts) g (is_last stmts) s) (stmt_sites.stmts_sites n f (after n g s) stmts) _ _
+      join n (stmt_sites.stmt_sites n (before_stmts f stmts) g (is_last stmts) s)
+      (stmt_sites.stmts_sites n f (after n g s) stmts) _ _
       (stmt_law n (before_stmts f stmts) g (is_last stmts) s)
       (stmts_law n f (after n g s) stmts
       ∙ ap (λ vs. stmts_bring n vs (result_kind f.result) stmts) (behind_law n g s))
@@ -250,7 +276,8 @@ mutual
       (join n (pattern_sites n g.vars k before q) (stmt_sites.block_sites n f (in_pattern n g k q) b) [] _
       (bound_nothing n g.vars (pattern_vars q) (pattern_kinds n k (pattern_name q)))
       (block_law n f (in_pattern n g k q) b
-      ∙ ap (λ vs. block_brings n vs (result_kind f.result) b) (bares_bound g.vars (pattern_vars q) (pattern_kinds n k (pattern_name q)))))
+      ∙ ap (λ vs. block_brings n vs (result_kind f.result) b)
+      (bares_bound g.vars (pattern_vars q) (pattern_kinds n k (pattern_name q)))))
       (block_arms_law n f g k (pattern_name q ∷ before) arms)
 
 -- # Declarations
@@ -263,14 +290,17 @@ declares_nothing : (n : Names) (vs : List Var) (params : List ParamTree) → Bri
 declares_nothing n vs [] = refl
 declares_nothing n vs (p ∷ params) = declares_nothing n (vs ++ param_var n p ∷ []) params
 
-written_law : (n : Names) (k : ℕ) (r : Role) (params : List ParamTree) → Brings n (written_all k r params) (params_bring n params)
+written_law : (n : Names) (k : ℕ) (r : Role) (params : List ParamTree) → Brings n (written_all k r params)
+    (params_bring n params)
 written_law n k r [] = refl
 written_law n k r (p ∷ params) = ap (λ z. parts n (kind_of n (param_type p)) ++ z) (written_law n k r params)
 
-params_law : (n : Names) (k : ℕ) (r : Role) (params : List ParamTree) → Brings n (param_sites n k r params) (params_bring n params)
+params_law : (n : Names) (k : ℕ) (r : Role) (params : List ParamTree) → Brings n (param_sites n k r params)
+    (params_bring n params)
 params_law n k r params =
     join n (named_all [] (map param_name params) ++ declares_all n [] params) (written_all k r params) [] (params_bring n params)
-    (join n (named_all [] (map param_name params)) (declares_all n [] params) [] [] (named_nothing n [] (map param_name params)) (declares_nothing n [] params))
+    (join n (named_all [] (map param_name params)) (declares_all n [] params) [] [] (named_nothing n [] (map param_name params))
+    (declares_nothing n [] params))
     (written_law n k r params)
 
 params_bare : (n : Names) (params : List ParamTree) → bares (param_vars n params) ≡ param_vars n params
@@ -296,10 +326,13 @@ decl_law n k type (DeclForm.query (QueryTree.query x params result body)) =
     ∙ ap (λ vs. expr_brings n vs (Some (kind_of n result)) body) (params_bare n params)))
     ∙ sym (append_assoc (params_bring n params) (parts n (kind_of n result)) _)
 decl_law n k type (DeclForm.proc (ProcTree.proc x params result body)) =
-    join n (param_sites n k role.Variable params ++ result_sites k result ++ stmt_sites.block_sites n (frame_for n k result) (sight_for n params) body)
+    join n (param_sites n k role.Variable params ++ result_sites k result ++ stmt_sites.block_sites n (frame_for n k result)
+    (sight_for n params) body)
     (Site.closes (after_block n (sight_for n params) body).live (is_there result) (brace_of body) ∷ []) _ []
-    (join n (param_sites n k role.Variable params ++ result_sites k result) (stmt_sites.block_sites n (frame_for n k result) (sight_for n params) body) _ _
-    (join n (param_sites n k role.Variable params) (result_sites k result) _ _ (params_law n k role.Variable params) (result_law n k result))
+    (join n (param_sites n k role.Variable params ++ result_sites k result)
+    (stmt_sites.block_sites n (frame_for n k result) (sight_for n params) body) _ _
+    (join n (param_sites n k role.Variable params) (result_sites k result) _ _ (params_law n k role.Variable params)
+    (result_law n k result))
     (block_law n (frame_for n k result) (sight_for n params) body
     ∙ ap (λ vs. block_brings n vs (result_kind (option_map (kind_of n) result)) body) (params_bare n params)))
     refl

@@ -30,7 +30,8 @@ filter_both p q [] = refl
 filter_both p q (z ∷ zs) = by (q z) (filter_both p q zs)
   where
     by : (b : Bool) → filter p (filter q zs) ≡ filter (λ z. q z && p z) zs
-        → filter p (cond b (z ∷ filter q zs) (filter q zs)) ≡ cond (b && p z) (z ∷ filter (λ z. q z && p z) zs) (filter (λ z. q z && p z) zs)
+        → filter p (cond b (z ∷ filter q zs) (filter q zs)) ≡ cond (b && p z) (z ∷ filter (λ z. q z && p z) zs)
+        (filter (λ z. q z && p z) zs)
     by true later = ap (λ rest. cond (p z) (z ∷ rest) rest) later
     by false later = later
 
@@ -77,7 +78,8 @@ each_is (y ∷ ys) xs = by (has_kind xs y) (each_is ys) refl
   where
     by : (b : Bool) → ((xs : List Kind) → with_each xs ys ≡ xs ++ filter (absent xs) (each_once ys)) → has_kind xs y ≡ b
         → with_each (cond b xs (xs ++ y ∷ [])) ys
-        ≡ xs ++ cond (not b) (y ∷ filter (absent xs) (filter (another y) (each_once ys))) (filter (absent xs) (filter (another y) (each_once ys)))
+        ≡ xs ++ cond (not b) (y ∷ filter (absent xs) (filter (another y) (each_once ys)))
+        (filter (absent xs) (filter (another y) (each_once ys)))
     by true later e =
         later xs
         ∙ ap (λ rest. xs ++ rest)
@@ -94,7 +96,8 @@ each_is (y ∷ ys) xs = by (has_kind xs y) (each_is ys) refl
 pub each_first : (k : Kind) (ks : List Kind) → with_each (k ∷ []) ks ≡ each_once (k ∷ ks)
 each_first k ks =
     each_is ks (k ∷ [])
-    ∙ ap (λ rest. k ∷ rest) (filter_same (absent (k ∷ [])) (another k) (each_once ks) (λ z. ap not (either (same_kind z k) ∙ turned z k)))
+    ∙ ap (λ rest. k ∷ rest) (filter_same (absent (k ∷ [])) (another k) (each_once ks)
+    (λ z. ap not (either (same_kind z k) ∙ turned z k)))
   where
     either : (b : Bool) → (b || false) ≡ b
     either true = refl

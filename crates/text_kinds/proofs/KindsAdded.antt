@@ -83,7 +83,8 @@ has_push : (xs : List Kind) (j k : Kind) → has_kind xs k ≡ true → has_kind
 has_push [] j k e = absurd cc
 has_push (x ∷ xs) j k e = by (same_kind k x) (has_push xs j k) e
   where
-    by : (b : Bool) → (has_kind xs k ≡ true → has_kind (xs ++ j ∷ []) k ≡ true) → (b || has_kind xs k) ≡ true → (b || has_kind (xs ++ j ∷ []) k) ≡ true
+    by : (b : Bool) → (has_kind xs k ≡ true → has_kind (xs ++ j ∷ []) k ≡ true) → (b || has_kind xs k) ≡ true
+        → (b || has_kind (xs ++ j ∷ []) k) ≡ true
     by true later e = refl
     by false later e = later e
 
@@ -169,7 +170,8 @@ adds_kind k t new none self is =
 
 -- `Maybe` of that, too
 pub adds_maybe : (b : Base) (m many : ℕ) (start old new : Numbered) → many ≡ m + 1
-    → Adds (maybes_of b m) start old → Adds (record { base = b; maybes = m + 1 } ∷ []) old new → Adds (maybes_of b many) start new
+    → Adds (maybes_of b m) start old → Adds (record { base = b; maybes = m + 1 } ∷ []) old new → Adds (maybes_of b many) start
+    new
 adds_maybe b m many start old new e done next =
     let plus : m + 1 ≡ suc m = omega arith in
     let one : Adds (record { base = b; maybes = suc m } ∷ []) old new =
@@ -177,8 +179,10 @@ adds_maybe b m many start old new e done next =
     subst (λ x. Adds (maybes_of b x) start new) (sym (e ∙ plus)) (adds_both (maybes_of b m) _ start old new done one)
 
 -- the next of a list
-pub adds_next : {X : Type 0} (f : Names → X → List Kind) (xs : List X) (i : ℕ) (x : X) (start old new : Numbered) → i < length xs → x ≡ get_or xs i x
-    → Adds (flat_map (f start.names) (take i xs)) start old → Adds (f old.names x) old new → Adds (flat_map (f start.names) (take (i + 1) xs)) start new
+pub adds_next : {X : Type 0} (f : Names → X → List Kind) (xs : List X) (i : ℕ) (x : X) (start old new : Numbered)
+    → i < length xs → x ≡ get_or xs i x
+    → Adds (flat_map (f start.names) (take i xs)) start old → Adds (f old.names x) old new
+    → Adds (flat_map (f start.names) (take (i + 1) xs)) start new
 adds_next f xs i x start old new h e done next =
     let names : old.names ≡ start.names = ap (λ (t : Numbered). t.names) done.is in
     let one : Adds (f start.names x) old new = subst (λ n. Adds (f n x) old new) names next in
@@ -186,9 +190,11 @@ adds_next f xs i x start old new h e done next =
     ap (flat_map (f start.names)) (take_more xs i x h ∙ ap (λ y. take i xs ++ y ∷ []) (sym e))
     ∙ flat_map-append (f start.names) (take i xs) (x ∷ [])
     ∙ ap (λ z. flat_map (f start.names) (take i xs) ++ z) (append-nil (f start.names x)) in
-    subst (λ ks. Adds ks start new) (sym all) (adds_both (flat_map (f start.names) (take i xs)) (f start.names x) start old new done one)
+    subst (λ ks. Adds ks start new) (sym all) (adds_both (flat_map (f start.names) (take i xs)) (f start.names x) start old new
+    done one)
 
-pub flat_two : {X Y Z : Type 0} (g : Z → List Kind) (h : Y → Z) (v : X → Y) (xs : List X) → flat_map g (map h (map v xs)) ≡ flat_map (λ x. g (h (v x))) xs
+pub flat_two : {X Y Z : Type 0} (g : Z → List Kind) (h : Y → Z) (v : X → Y) (xs : List X) → flat_map g (map h (map v xs))
+    ≡ flat_map (λ x. g (h (v x))) xs
 flat_two g h v [] = refl
 flat_two g h v (x ∷ xs) = ap (λ z. g (h (v x)) ++ z) (flat_two g h v xs)
 

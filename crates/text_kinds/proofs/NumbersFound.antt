@@ -26,8 +26,10 @@ pub number_is : (n : Names) (i f : ℕ) (xs : List Kind) (k : Kind)
 number_is n i f [] k = refl
 number_is n i f (x ∷ xs) k = by (same_kind k x) (number_is n (i + 1) (f + length (cons_of n x)) xs k)
   where
-    by : (b : Bool) → option_map (λ (r : Numbers). r.number) (numbers_in n (i + 1) (f + length (cons_of n x)) xs k) ≡ position_from (same_kind k) (i + 1) xs
-        → option_map (λ (r : Numbers). r.number) (cond b (Some (numbers i f)) (numbers_in n (i + 1) (f + length (cons_of n x)) xs k))
+    by : (b : Bool) → option_map (λ (r : Numbers). r.number) (numbers_in n (i + 1) (f + length (cons_of n x)) xs k)
+        ≡ position_from (same_kind k) (i + 1) xs
+        → option_map (λ (r : Numbers). r.number) (cond b (Some (numbers i f))
+        (numbers_in n (i + 1) (f + length (cons_of n x)) xs k))
         ≡ cond b (Some i) (position_from (same_kind k) (i + 1) xs)
     by true later = refl
     by false later = later
@@ -124,7 +126,8 @@ shifted p f i (x ∷ xs) = by (p x) (shifted p f (i + 1) xs)
     by true later = refl
     by false later = ap (λ m. position_from p m xs) (omega arith) ∙ later
 
-from_first : {X : Type 0} (p : X → Bool) (f : ℕ) (xs : List X) → position_from p f xs ≡ option_map (λ q. f + q) (position_from p 0 xs)
+from_first : {X : Type 0} (p : X → Bool) (f : ℕ) (xs : List X) → position_from p f xs ≡ option_map (λ q. f + q)
+    (position_from p 0 xs)
 from_first p f xs = ap (λ m. position_from p m xs) (omega arith) ∙ shifted p f 0 xs
 
 pub below : {X : Type 0} (p : X → Bool) (i : ℕ) (xs : List X) (q : ℕ) → position_from p i xs ≡ Some q → q < i + length xs
@@ -141,13 +144,15 @@ self_of k j e = subst (λ d. same_kind k d ≡ true) (sym (kind_one k j e)) e
 
 turned : (k j : Kind) → same_kind k j ≡ false → same_kind j k ≡ false
 turned k j e =
-    false_from_ne_true (same_kind j k) (λ h. true≢false (sym (subst (λ d. same_kind d j ≡ true) (kind_one j k h) (self_of j k h)) ∙ e))
+    false_from_ne_true (same_kind j k) (λ h. true≢false
+    (sym (subst (λ d. same_kind d j ≡ true) (kind_one j k h) (self_of j k h)) ∙ e))
 
 cases : Names → Kind → List Case
 cases n k = unwrap_or (cases_of n k) []
 
 -- where a type has none of this name, none is found
-nowhere : (n : Names) (k : Kind) (x : Name) (f : ℕ) (xs : List Kind) → position_from (named x) 0 (unwrap_or (cases_of n k) []) ≡ None
+nowhere : (n : Names) (k : Kind) (x : Name) (f : ℕ) (xs : List Kind) → position_from (named x) 0 (unwrap_or (cases_of n k) [])
+    ≡ None
     → position_from (is_con k x) f (flat_map (cons_of n) xs) ≡ None
 nowhere n k x f [] none = refl
 nowhere n k x f (j ∷ xs) none = by (same_kind j k) (λ f. nowhere n k x f xs none) refl
@@ -180,9 +185,11 @@ con_found n k x i f (j ∷ xs) =
         ≡ option_map (λ q. f + q) o
     there (Some q) e = refl
     there None e = nowhere n k x (f + length (cons_of n k)) xs e
+
     by : (b : Bool)
         → position_from (is_con k x) (f + length (cons_of n j)) (flat_map (cons_of n) xs)
-        ≡ option_and_then (behind (position_from (named x) 0 (unwrap_or (cases_of n k) []))) (numbers_in n (i + 1) (f + length (cons_of n j)) xs k)
+        ≡ option_and_then (behind (position_from (named x) 0 (unwrap_or (cases_of n k) [])))
+        (numbers_in n (i + 1) (f + length (cons_of n j)) xs k)
         → same_kind k j ≡ b
         → position_from (is_con k x) f (cons_of n j ++ flat_map (cons_of n) xs)
         ≡ option_and_then (behind (position_from (named x) 0 (unwrap_or (cases_of n k) [])))
@@ -199,20 +206,25 @@ con_found n k x i f (j ∷ xs) =
 -- the constructor's place is that of the first of its datatype and its own among these
 pub con_number_is : (n : Names) (kinds : List Kind) (k : Kind) (x : Name)
     → con_place (numbered n kinds) k x
-    ≡ option_and_then (behind (position_from (λ (c : Case). same_name c.name x) 0 (unwrap_or (cases_of n k) []))) (numbers_in n 0 0 kinds k)
+    ≡ option_and_then (behind (position_from (λ (c : Case). same_name c.name x) 0 (unwrap_or (cases_of n k) [])))
+    (numbers_in n 0 0 kinds k)
 con_number_is n kinds k x = position_from-zero (is_con k x) (flat_map (cons_of n) kinds) ∙ con_found n k x 0 0 kinds
 
 pub con_within : (n : Names) (kinds : List Kind) (k : Kind) (x : Name) (q : ℕ)
     → con_place (numbered n kinds) k x ≡ Some q → q < length (flat_map (cons_of n) kinds)
 con_within n kinds k x q e =
-    omega (arith, below (is_con k x) 0 (flat_map (cons_of n) kinds) q
-    (sym (position_from-zero (is_con k x) (flat_map (cons_of n) kinds)) ∙ e))
+    omega (
+      arith,
+      below (is_con k x) 0 (flat_map (cons_of n) kinds) q
+          (sym (position_from-zero (is_con k x) (flat_map (cons_of n) kinds)) ∙ e),
+    )
 
 -- what has no place has no numbers
 pub numbers_none : (n : Names) (i f : ℕ) (xs : List Kind) (k : Kind) → place_of k.base ≡ None → numbers_in n i f xs k ≡ None
 numbers_none n i f [] k e = refl
 numbers_none n i f (x ∷ xs) k e =
-    ap (λ b. cond b (Some (numbers i f)) (numbers_in n (i + 1) (f + length (cons_of n x)) xs k)) (and_left _ _ (no_place k.base x.base e))
+    ap (λ b. cond b (Some (numbers i f)) (numbers_in n (i + 1) (f + length (cons_of n x)) xs k))
+    (and_left _ _ (no_place k.base x.base e))
     ∙ numbers_none n (i + 1) (f + length (cons_of n x)) xs k e
 
 pub con_there : (n : Names) (kinds : List Kind) (k : Kind) (x : Name) (r : Numbers) (p q : ℕ) → numbers_in n 0 0 kinds k ≡ Some r
@@ -225,7 +237,8 @@ con_there n kinds k x r p q e h is =
 
 -- a datatype that has no constructor of this name
 pub con_absent : (n : Names) (kinds : List Kind) (k : Kind) (x : Name) (r : Numbers) → numbers_in n 0 0 kinds k ≡ Some r
-    → position_from (λ (c : Case). same_name c.name x) 0 (unwrap_or (cases_of n k) []) ≡ None → con_place (numbered n kinds) k x ≡ None
+    → position_from (λ (c : Case). same_name c.name x) 0 (unwrap_or (cases_of n k) []) ≡ None → con_place (numbered n kinds) k x
+    ≡ None
 con_absent n kinds k x r e h =
     con_number_is n kinds k x
     ∙ ap (option_and_then (behind (position_from (named x) 0 (unwrap_or (cases_of n k) [])))) e
@@ -238,6 +251,7 @@ con_nowhere n kinds k x e =
     con_number_is n kinds k x ∙ ap (option_and_then (behind (position_from (named x) 0 (unwrap_or (cases_of n k) [])))) e
 
 pub cons_place : (n : Names) (cs : List ConNode) (x : Name) (k : ℕ)
-    → place_from k (map (λ (con : ConNode). con.name.text) cs) x ≡ position_from (λ (c : Case). same_name c.name x) k (map (con_case n) (map con_view cs))
+    → place_from k (map (λ (con : ConNode). con.name.text) cs) x ≡ position_from (λ (c : Case). same_name c.name x) k
+    (map (con_case n) (map con_view cs))
 cons_place n [] x k = refl
 cons_place n (c ∷ cs) x k = ap (cond (same_name c.name.text x) (Some k)) (cons_place n cs x (k + 1))

@@ -11,10 +11,12 @@ use Rattle.type_rules.specs.Names.{Names, TypeEntry}
 use Rattle.desugaring.specs.Appearances.{base_parts, is_declared, maybes_of, parts, sort_parts}
 use Rattle.text_kinds.specs.means.Rows.{before, declared_number, declared_parts, parts_before}
 
-reversed_more : (xs : List TypeEntry) (i : ℕ) (e : TypeEntry) → slice_get xs i ≡ Some e → reverse (take (i + 1) xs) ≡ e ∷ reverse (take i xs)
+reversed_more : (xs : List TypeEntry) (i : ℕ) (e : TypeEntry) → slice_get xs i ≡ Some e → reverse (take (i + 1) xs) ≡ e
+    ∷ reverse (take i xs)
 reversed_more xs i e h =
     let within = slice_get_within xs i e h in
-    ap reverse (take_more xs i e within ∙ ap (λ d. take i xs ++ d ∷ []) (get_or_from_slice_get xs i e e h)) ∙ turned (take i xs) e
+    ap reverse (take_more xs i e within ∙ ap (λ d. take i xs ++ d ∷ []) (get_or_from_slice_get xs i e e h))
+    ∙ turned (take i xs) e
   where
     turned : (xs : List TypeEntry) (e : TypeEntry) → reverse (xs ++ e ∷ []) ≡ e ∷ reverse xs
     turned xs e = reverse-append xs (e ∷ [])
@@ -49,7 +51,8 @@ pub declared_is : (n : Names) (type : ℕ) (e : TypeEntry) → slice_get n.types
 declared_is n type e h =
     append-nil (base_parts n (before n (type + 1)) (base.Declared type))
     ∙ ap (λ es. base_parts n es (base.Declared type)) (reversed_more n.types type e h)
-    ∙ ap (λ b. cond b (sort_parts n (base_parts n (before n type)) (length (before n type)) e.sort) (base_parts n (before n type) (base.Declared type)))
+    ∙ ap (λ b. cond b (sort_parts n (base_parts n (before n type)) (length (before n type)) e.sort)
+    (base_parts n (before n type) (base.Declared type)))
     (eq-eqb type (length (before n type)) (sym long))
     ∙ ap (λ m. sort_parts n (base_parts n (before n type)) m e.sort) long
   where
@@ -65,7 +68,8 @@ declared_none n type h =
     long = omega (arith, length-reverse (take (type + 1) n.types), length-take (type + 1) n.types)
 
 -- the types that are declared later tell nothing
-later_types : (n : Names) (types type : ℕ) → type < types → base_parts n (before n types) (base.Declared type) ≡ base_parts n (before n (type + 1)) (base.Declared type)
+later_types : (n : Names) (types type : ℕ) → type < types → base_parts n (before n types) (base.Declared type)
+    ≡ base_parts n (before n (type + 1)) (base.Declared type)
 later_types n zero type h = absurd (omega arith)
 later_types n (suc types) type h = by_place (cases_eq types type) (later_types n types type)
   where
@@ -76,23 +80,28 @@ later_types n (suc types) type h = by_place (cases_eq types type) (later_types n
         let plus : suc types ≡ types + 1 = omega arith in
         ap (λ m. base_parts n (before n m) (base.Declared type)) plus
         ∙ ap (λ es. base_parts n es (base.Declared type)) (reversed_more n.types types e at)
-        ∙ ap (λ b. cond b (sort_parts n (base_parts n (before n types)) (length (before n types)) e.sort) (base_parts n (before n types) (base.Declared type)))
+        ∙ ap (λ b. cond b (sort_parts n (base_parts n (before n types)) (length (before n types)) e.sort)
+        (base_parts n (before n types) (base.Declared type)))
         (ne_eqb type (length (before n types)) (λ same. other (sym (same ∙ length-reverse (take types n.types)
         ∙ length-take-le types n.types (omega (arith, slice_get_within n.types types e at))))))
         ∙ later
     by_entry None at other later =
-        ap (λ xs. base_parts n (reverse xs) (base.Declared type)) (take_all (suc types) n.types (omega (arith, past n.types types at))
+        ap (λ xs. base_parts n (reverse xs) (base.Declared type))
+        (take_all (suc types) n.types (omega (arith, past n.types types at))
         ∙ sym (take_all types n.types (past n.types types at)))
         ∙ later
+
     by_place : (types ≡ type) ⊎ (types ≡ type → ⊥)
-        → (type < types → base_parts n (before n types) (base.Declared type) ≡ base_parts n (before n (type + 1)) (base.Declared type))
+        → (type < types → base_parts n (before n types) (base.Declared type) ≡ base_parts n (before n (type + 1))
+        (base.Declared type))
         → base_parts n (before n (suc types)) (base.Declared type) ≡ base_parts n (before n (type + 1)) (base.Declared type)
     by_place (inl e) later =
         let same : suc types ≡ type + 1 = omega arith in
         ap (λ m. base_parts n (before n m) (base.Declared type)) same
     by_place (inr other) later = by_entry (slice_get n.types types) refl other (later (strictly types type h other))
 
-pub declared_before : (n : Names) (types type : ℕ) → type < types → base_parts n (before n types) (base.Declared type) ≡ declared_parts n type
+pub declared_before : (n : Names) (types type : ℕ) → type < types → base_parts n (before n types) (base.Declared type)
+    ≡ declared_parts n type
 declared_before n types type h =
     later_types n types type h ∙ sym (append-nil (base_parts n (before n (type + 1)) (base.Declared type)))
 
@@ -116,7 +125,8 @@ other_base base.Open type e = refl
 built_in : (n : Names) (es : List TypeEntry) (b : Base) → declared_number b ≡ None → base_parts n es b ≡ []
 built_in n [] b h = refl
 built_in n (e ∷ es) b h =
-    ap (λ t. cond t (sort_parts n (base_parts n es) (length es) e.sort) (base_parts n es b)) (other_base b (length es) h) ∙ built_in n es b h
+    ap (λ t. cond t (sort_parts n (base_parts n es) (length es) e.sort) (base_parts n es b)) (other_base b (length es) h)
+    ∙ built_in n es b h
 
 pub nothing_inside : (n : Names) (types : ℕ) (b : Base) → declared_number b ≡ None → base_parts n (before n types) b ≡ []
 nothing_inside n types b h = built_in n (before n types) b h
@@ -135,4 +145,5 @@ number_inside base.Unknown type e = absurd cc
 number_inside base.Open type e = absurd cc
 
 pub all_declared : (n : Names) (k : Kind) → parts n k ≡ parts_before n (length n.types) k
-all_declared n k = ap (λ xs. base_parts n (reverse xs) k.base ++ maybes_of k.base k.maybes) (sym (take_all (length n.types) n.types (omega arith)))
+all_declared n k = ap (λ xs. base_parts n (reverse xs) k.base ++ maybes_of k.base k.maybes)
+    (sym (take_all (length n.types) n.types (omega arith)))

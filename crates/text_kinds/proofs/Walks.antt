@@ -47,15 +47,18 @@ goes_end start now whole goes = ap₂ (λ vs t. record { vars = vs; kinds = t })
 pub gains_start : (s : Seen) (whole : List Kind) (all : List Var) → Gains s s whole whole all all
 gains_start s whole all = record { vars = refl; names = refl; comes = refl }
 
-pub gains_on : (start now new : Seen) (rest one next whole : List Kind) (seen later all : List Var) → Gains start now rest whole seen all
+pub gains_on : (start now new : Seen) (rest one next whole : List Kind) (seen later all : List Var)
+    → Gains start now rest whole seen all
     → rest ≡ one ++ next → seen ≡ later → new.kinds ≡ with_kinds one now.kinds → Gains start new next whole later all
 gains_on start now new rest one next whole seen later all gains parts vars is = record {
   vars = sym vars ∙ gains.vars;
   names = ap (λ (t : Numbered). t.names) is ∙ gains.names;
-  comes = ap (with_kinds next) is ∙ sym (kinds_both one next now.kinds) ∙ ap (λ ks. with_kinds ks now.kinds) (sym parts) ∙ gains.comes;
+  comes = ap (with_kinds next) is ∙ sym (kinds_both one next now.kinds) ∙ ap (λ ks. with_kinds ks now.kinds) (sym parts)
+      ∙ gains.comes;
 }
 
-pub gains_end : (start now : Seen) (whole : List Kind) (all : List Var) → Gains start now [] whole now.vars all → now ≡ seeing (sought start whole) all
+pub gains_end : (start now : Seen) (whole : List Kind) (all : List Var) → Gains start now [] whole now.vars all → now
+    ≡ seeing (sought start whole) all
 gains_end start now whole all gains = ap₂ (λ vs t. record { vars = vs; kinds = t }) gains.vars gains.comes
 
 -- # Lists that are gone through
@@ -81,7 +84,8 @@ pub both_kinds : (a b c : Numbered) (f g : Names → List Kind) → b ≡ with_k
 both_kinds a b c f g one other =
     other ∙ ap (λ (t : Numbered). with_kinds (g t.names) t) one ∙ sym (kinds_both (f a.names) (g a.names) a)
 
-pub names_on : (start old new : Numbered) (f : Names → List Kind) → old.names ≡ start.names → new ≡ with_kinds (f old.names) old → new.names ≡ start.names
+pub names_on : (start old new : Numbered) (f : Names → List Kind) → old.names ≡ start.names → new ≡ with_kinds (f old.names) old
+    → new.names ≡ start.names
 names_on start old new f names is = ap (λ (t : Numbered). t.names) is ∙ names
 
 pub kinds_on : (start old new : Numbered) (rest next whole : List Kind) (f : Names → List Kind) → old.names ≡ start.names
@@ -101,14 +105,17 @@ pub both_as : (a b c : Seen) (f g : Names → List Var → List Kind) (whole : L
 both_as a b c f g whole one other same = both_sought a b c f g one other ∙ ap (sought a) (sym same)
 
 -- behind a part in which more variables were in sight
-pub left_sought : (a b c d : Seen) (vs more : List Var) (f : Names → List Var → List Kind) → vs ≡ a.vars ++ more → b ≡ seeing a vs
+pub left_sought : (a b c d : Seen) (vs more : List Var) (f : Names → List Var → List Kind) → vs ≡ a.vars ++ more → b
+    ≡ seeing a vs
     → c ≡ sought b (f b.kinds.names b.vars) → d ≡ seeing c (take (length a.vars) c.vars) → d ≡ sought a (f a.kinds.names vs)
 left_sought a b c d vs more f long bound brought gone =
     gone
-    ∙ ap (λ (s : Seen). seeing s (take (length a.vars) s.vars)) (brought ∙ ap (λ (s : Seen). sought s (f s.kinds.names s.vars)) bound)
+    ∙ ap (λ (s : Seen). seeing s (take (length a.vars) s.vars))
+    (brought ∙ ap (λ (s : Seen). sought s (f s.kinds.names s.vars)) bound)
     ∙ ap (seeing (sought a (f a.kinds.names vs))) (ap (take (length a.vars)) long ∙ left_seen a.vars more)
 
-pub three_as : (a b c d : Seen) (f g h : Names → List Var → List Kind) (whole : List Kind) → b ≡ sought a (f a.kinds.names a.vars)
+pub three_as : (a b c d : Seen) (f g h : Names → List Var → List Kind) (whole : List Kind) → b
+    ≡ sought a (f a.kinds.names a.vars)
     → c ≡ sought b (g b.kinds.names b.vars) → d ≡ sought c (h c.kinds.names c.vars)
     → whole ≡ f a.kinds.names a.vars ++ g a.kinds.names a.vars ++ h a.kinds.names a.vars → d ≡ sought a whole
 three_as a b c d f g h whole one two three same =

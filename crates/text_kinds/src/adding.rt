@@ -60,7 +60,8 @@ fn is_next(rows: &[List<Numbers>], place: usize, many: usize) -> bool
 impl<'n, 'a> KindTable<'n, 'a> {
     /// The numbers of the next datatype.
     fn next(&self) -> Numbers
-        ensures { result ≡ numbers (length self.now.kinds) (length (flat_map (cons_of (names_view self.now.names.now)) self.now.kinds)) }
+        ensures { result ≡ numbers (length self.now.kinds)
+            (length (flat_map (cons_of (names_view self.now.names.now)) self.now.kinds)) }
     {
         Numbers {
             number: self.kinds.count(),
@@ -107,7 +108,8 @@ impl<'n, 'a> KindTable<'n, 'a> {
 
     /// Adds `Maybe` of a type under so many `Maybe`s, where all these are there.
     fn add_maybe(&mut self, base: Base, held: u32) -> Result<(), Memory>
-        ensures { OnOk result (Adds (record { base = base; maybes = held + 1 } ∷ []) (kinds_view self.old) (kinds_view self.new)) }
+        ensures { OnOk result (Adds (record { base = base; maybes = held + 1 } ∷ []) (kinds_view self.old)
+            (kinds_view self.new)) }
     {
         let Some(maybes) = held.checked_add(1) else {
             return Err(Memory);
@@ -147,7 +149,8 @@ impl<'n, 'a> KindTable<'n, 'a> {
     #[cycle(inner)]
     fn add_fields(&mut self, types: u32, fields: &[Param]) -> Result<(), Memory>
         ensures { OnOk result (Adds (flat_map (parts_before (names_view self.old.names.now) types)
-            (param_kinds (names_view self.old.names.now) (tree.params_view fields.now))) (kinds_view self.old) (kinds_view self.new)) }
+            (param_kinds (names_view self.old.names.now) (tree.params_view fields.now))) (kinds_view self.old)
+            (kinds_view self.new)) }
     {
         for field in fields {
             let kind = self.names.kind_of(&field.ty)?;
@@ -160,7 +163,8 @@ impl<'n, 'a> KindTable<'n, 'a> {
     #[cycle(inner)]
     fn add_cons(&mut self, types: u32, cons: &[ConNode]) -> Result<(), Memory>
         ensures { OnOk result (Adds (flat_map (parts_before (names_view self.old.names.now) types)
-            (field_kinds (names_view self.old.names.now) (map tree.con_view cons.now))) (kinds_view self.old) (kinds_view self.new)) }
+            (field_kinds (names_view self.old.names.now) (map tree.con_view cons.now))) (kinds_view self.old)
+            (kinds_view self.new)) }
     {
         for con in cons {
             self.add_fields(types, con.fields.as_slice())?;
@@ -171,7 +175,8 @@ impl<'n, 'a> KindTable<'n, 'a> {
     /// Adds a declared datatype behind the datatypes of its fields.
     #[cycle(inner)]
     fn add_declared(&mut self, number: u32) -> Result<(), Memory>
-        ensures { OnOk result (Adds (declared_parts (names_view self.old.names.now) number) (kinds_view self.old) (kinds_view self.new)) }
+        ensures { OnOk result (Adds (declared_parts (names_view self.old.names.now) number) (kinds_view self.old)
+            (kinds_view self.new)) }
     {
         if self.has(plain_kind(Base::Declared(number))) {
             return Ok(());
@@ -193,7 +198,8 @@ impl<'n, 'a> KindTable<'n, 'a> {
     /// Adds the datatypes of what stands under `Maybe`s, where only the first types, so many, are declared.
     #[cycle(inner)]
     fn add_base(&mut self, types: u32, base: Base) -> Result<(), Memory>
-        ensures { OnOk result (Adds (base_parts (names_view self.old.names.now) (before (names_view self.old.names.now) types) base) (kinds_view self.old) (kinds_view self.new)) }
+        ensures { OnOk result (Adds (base_parts (names_view self.old.names.now) (before (names_view self.old.names.now) types)
+            base) (kinds_view self.old) (kinds_view self.new)) }
     {
         match declared_number(base) {
             Some(number) => if number < types {
@@ -208,7 +214,8 @@ impl<'n, 'a> KindTable<'n, 'a> {
     /// Adds the datatypes inside a type, and then itself.
     #[cycle(inner)]
     fn add_before(&mut self, types: u32, kind: Kind) -> Result<(), Memory>
-        ensures { OnOk result (Adds (parts_before (names_view self.old.names.now) types kind) (kinds_view self.old) (kinds_view self.new)) }
+        ensures { OnOk result (Adds (parts_before (names_view self.old.names.now) types kind) (kinds_view self.old)
+            (kinds_view self.new)) }
     {
         self.add_base(types, kind.base)?;
         self.add_maybes(kind.base, kind.maybes)
@@ -216,7 +223,8 @@ impl<'n, 'a> KindTable<'n, 'a> {
 
     /// Adds the datatypes inside a type, and then itself. `Err` is that it isn't known, too.
     pub fn add(&mut self, kind: Kind) -> Result<(), Memory>
-        ensures { OnOk result (kinds_view self.new ≡ with_kinds (parts (names_view self.old.names.now) kind) (kinds_view self.old)) }
+        ensures { OnOk result (kinds_view self.new ≡ with_kinds (parts (names_view self.old.names.now) kind)
+            (kinds_view self.old)) }
     {
         self.add_before(self.names.type_count(), kind)
     }

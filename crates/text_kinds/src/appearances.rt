@@ -19,7 +19,10 @@ ghost use Rattle.text_kinds.specs.means.Walked.{seen};
 ghost use Rattle.text_kinds.specs.means.Brought.{behind_pattern, seeing, sought};
 
 use crate::table::KindTable;
-use rp_ast::{AccessNode, AccessStep, CallWord, CompareOp, ExprArm, ExprForm, ExprNode, Ident, Param, PatternNode};
+use rp_ast::{
+    AccessNode, AccessStep, CallWord, CompareOp, ExprArm, ExprForm, ExprNode, Ident, Param,
+    PatternNode,
+};
 use rp_value::Memory;
 use std::alloc::Global;
 use text_names::TextNames;
@@ -27,8 +30,8 @@ use type_judges::{left_want, right_want, word_arg};
 use type_rules::Kind;
 use type_tables::{BOOL_KIND, INT_KIND, VarItem, Vars};
 use type_terms::{
-    Access, Case, Way, access_of, arg_kind, asked_inside, case_field, cases_of, find_case, key_kind, stepped, type_of,
-    way_from,
+    Access, Case, Way, access_of, arg_kind, asked_inside, case_field, cases_of, find_case,
+    key_kind, stepped, type_of, way_from,
 };
 
 /// The constructor of a type that a name stands for.
@@ -75,7 +78,8 @@ impl<'n, 'a> Seeker<'n, 'a> {
 
     /// The variables of a pattern for a term of this type come in sight.
     pub(crate) fn bind_all(&mut self, kind: Kind, pattern: &'a PatternNode) -> Result<(), Memory>
-        ensures { OnOk result (seen self.new ≡ seeing (seen self.old) (behind_pattern (names_view self.old.kinds.names.now) self.old.vars kind
+        ensures { OnOk result (seen self.new ≡ seeing (seen self.old)
+            (behind_pattern (names_view self.old.kinds.names.now) self.old.vars kind
             (tree.pattern_view pattern.now))) }
     {
         let names = self.kinds.names();
@@ -95,7 +99,12 @@ impl<'n, 'a> Seeker<'n, 'a> {
     }
 
     /// What the left side of a comparison is asked.
-    fn left_asked(&self, op: CompareOp, left: &ExprNode, right: &ExprNode) -> Result<Option<Kind>, Memory>
+    fn left_asked(
+        &self,
+        op: CompareOp,
+        left: &ExprNode,
+        right: &ExprNode,
+    ) -> Result<Option<Kind>, Memory>
         ensures { IfOk result (λ asked. asked ≡ (spec.left_want (names_view self.now.kinds.names.now) self.now.vars op
             (tree.expr_view left.now) (tree.expr_view right.now)).asked) }
     {
@@ -103,7 +112,12 @@ impl<'n, 'a> Seeker<'n, 'a> {
         Ok(want.asked)
     }
 
-    fn right_asked(&self, op: CompareOp, left: &ExprNode, right: &ExprNode) -> Result<Option<Kind>, Memory>
+    fn right_asked(
+        &self,
+        op: CompareOp,
+        left: &ExprNode,
+        right: &ExprNode,
+    ) -> Result<Option<Kind>, Memory>
         ensures { IfOk result (λ asked. asked ≡ (spec.right_want (names_view self.now.kinds.names.now) self.now.vars op
             (tree.expr_view left.now) (tree.expr_view right.now)).asked) }
     {
@@ -114,7 +128,8 @@ impl<'n, 'a> Seeker<'n, 'a> {
     /// Adds what an expression brings whose place asks this type.
     #[cycle(exprs)]
     pub(crate) fn expr(&mut self, asked: Option<Kind>, e: &'a ExprNode) -> Result<(), Memory>
-        ensures { OnOk result (seen self.new ≡ sought (seen self.old) (means.expr_brings (names_view self.old.kinds.names.now) self.old.vars asked
+        ensures { OnOk result (seen self.new ≡ sought (seen self.old)
+            (means.expr_brings (names_view self.old.kinds.names.now) self.old.vars asked
             (tree.expr_view e.now))) }
     {
         match &e.what {
@@ -165,7 +180,8 @@ impl<'n, 'a> Seeker<'n, 'a> {
     /// The operands of a chain.
     #[cycle(exprs)]
     fn operands(&mut self, operands: &'a [ExprNode]) -> Result<(), Memory>
-        ensures { OnOk result (seen self.new ≡ sought (seen self.old) (means.operands_bring (names_view self.old.kinds.names.now) self.old.vars
+        ensures { OnOk result (seen self.new ≡ sought (seen self.old)
+            (means.operands_bring (names_view self.old.kinds.names.now) self.old.vars
             (tree.exprs_view operands.now))) }
     {
         for operand in operands {
@@ -178,8 +194,10 @@ impl<'n, 'a> Seeker<'n, 'a> {
     fn quantified(&mut self, param: &'a Param, body: &'a ExprNode) -> Result<(), Memory>
         ensures { (p : ParamTree) → p ≡ tree.param_view param.now
             → OnOk result (seen self.new ≡ sought (seen self.old) (parts (names_view self.old.kinds.names.now)
-            (kind_of (names_view self.old.kinds.names.now) (param_type p)) ++ means.expr_brings (names_view self.old.kinds.names.now)
-            (self.old.vars ++ spec.quantified_var (names_view self.old.kinds.names.now) p ∷ []) (Some bool_kind) (tree.expr_view body.now))) }
+            (kind_of (names_view self.old.kinds.names.now) (param_type p)) ++ means.expr_brings
+            (names_view self.old.kinds.names.now)
+            (self.old.vars ++ spec.quantified_var (names_view self.old.kinds.names.now) p ∷ []) (Some bool_kind)
+            (tree.expr_view body.now))) }
     {
         let len = self.vars.len();
         let kind = self.kinds.names().kind_of(&param.ty)?;
@@ -193,8 +211,10 @@ impl<'n, 'a> Seeker<'n, 'a> {
     /// The arguments of a word.
     #[cycle(exprs)]
     fn word(&mut self, word: CallWord, args: &'a [ExprNode]) -> Result<(), Memory>
-        ensures { OnOk result (seen self.new ≡ sought (seen self.old) (means.args_bring (names_view self.old.kinds.names.now) self.old.vars
-            (spec.word_args (names_view self.old.kinds.names.now) self.old.vars word (tree.exprs_view args.now)) (tree.exprs_view args.now))) }
+        ensures { OnOk result (seen self.new ≡ sought (seen self.old)
+            (means.args_bring (names_view self.old.kinds.names.now) self.old.vars
+            (spec.word_args (names_view self.old.kinds.names.now) self.old.vars word (tree.exprs_view args.now))
+            (tree.exprs_view args.now))) }
     {
         for (place, arg) in args.iter().enumerate() {
             let kind = word_arg(self.kinds.names(), &self.vars, word, args, place)?;
@@ -206,7 +226,8 @@ impl<'n, 'a> Seeker<'n, 'a> {
     /// The arms for a term of this type.
     #[cycle(exprs)]
     fn arms(&mut self, kind: Kind, arms: &'a [ExprArm]) -> Result<(), Memory>
-        ensures { OnOk result (seen self.new ≡ sought (seen self.old) (means.arms_bring (names_view self.old.kinds.names.now) self.old.vars kind
+        ensures { OnOk result (seen self.new ≡ sought (seen self.old)
+            (means.arms_bring (names_view self.old.kinds.names.now) self.old.vars kind
             (tree.expr_arms_view arms.now))) }
     {
         for arm in arms {
@@ -217,7 +238,8 @@ impl<'n, 'a> Seeker<'n, 'a> {
 
     #[cycle(exprs)]
     fn arm(&mut self, kind: Kind, arm: &'a ExprArm) -> Result<(), Memory>
-        ensures { OnOk result (seen self.new ≡ sought (seen self.old) (means.arm_brings (names_view self.old.kinds.names.now) self.old.vars kind
+        ensures { OnOk result (seen self.new ≡ sought (seen self.old)
+            (means.arm_brings (names_view self.old.kinds.names.now) self.old.vars kind
             (tree.expr_arm_view arm.now))) }
     {
         let len = self.vars.len();
@@ -230,7 +252,8 @@ impl<'n, 'a> Seeker<'n, 'a> {
     /// The keys and the arguments of an access.
     #[cycle(exprs)]
     pub(crate) fn access(&mut self, access: &'a AccessNode) -> Result<(), Memory>
-        ensures { OnOk result (seen self.new ≡ sought (seen self.old) (means.access_brings (names_view self.old.kinds.names.now) self.old.vars
+        ensures { OnOk result (seen self.new ≡ sought (seen self.old)
+            (means.access_brings (names_view self.old.kinds.names.now) self.old.vars
             (tree.access_view access.now))) }
     {
         let names = self.kinds.names();
@@ -246,7 +269,8 @@ impl<'n, 'a> Seeker<'n, 'a> {
     /// The keys of the steps that go on from there.
     #[cycle(exprs)]
     fn keys(&mut self, way: Way<'a>, steps: &'a [AccessStep]) -> Result<(), Memory>
-        ensures { OnOk result (seen self.new ≡ sought (seen self.old) (means.steps_bring (names_view self.old.kinds.names.now) self.old.vars
+        ensures { OnOk result (seen self.new ≡ sought (seen self.old)
+            (means.steps_bring (names_view self.old.kinds.names.now) self.old.vars
             (way_view (names_view self.old.kinds.names.now) way.entry) (tree.steps_view steps.now))) }
     {
         let mut way = way;
@@ -259,7 +283,8 @@ impl<'n, 'a> Seeker<'n, 'a> {
 
     #[cycle(exprs)]
     fn key(&mut self, way: Way<'a>, step: &'a AccessStep) -> Result<(), Memory>
-        ensures { OnOk result (seen self.new ≡ sought (seen self.old) (means.key_brings (names_view self.old.kinds.names.now) self.old.vars
+        ensures { OnOk result (seen self.new ≡ sought (seen self.old)
+            (means.key_brings (names_view self.old.kinds.names.now) self.old.vars
             (way_view (names_view self.old.kinds.names.now) way.entry) (tree.step_view step.now))) }
     {
         match step {
@@ -275,8 +300,10 @@ impl<'n, 'a> Seeker<'n, 'a> {
     /// The arguments of what is called.
     #[cycle(exprs)]
     fn args(&mut self, what: Access<'a>, args: &'a [ExprNode]) -> Result<(), Memory>
-        ensures { OnOk result (seen self.new ≡ sought (seen self.old) (means.args_bring (names_view self.old.kinds.names.now) self.old.vars
-            (args_of (names_view self.old.kinds.names.now) (access_view (names_view self.old.kinds.names.now) what.entry)) (tree.exprs_view args.now))) }
+        ensures { OnOk result (seen self.new ≡ sought (seen self.old)
+            (means.args_bring (names_view self.old.kinds.names.now) self.old.vars
+            (args_of (names_view self.old.kinds.names.now) (access_view (names_view self.old.kinds.names.now) what.entry))
+            (tree.exprs_view args.now))) }
     {
         for (place, arg) in args.iter().enumerate() {
             let kind = arg_kind(self.kinds.names(), what, place)?;

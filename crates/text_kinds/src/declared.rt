@@ -47,7 +47,8 @@ impl<'n, 'a> KindTable<'n, 'a> {
     /// Adds what a replicated type is over.
     #[cycle(crdts)]
     pub(crate) fn add_crdt(&mut self, crdt: &CrdtNode) -> Result<(), Memory>
-        ensures { OnOk result (kinds_view self.new ≡ with_kinds (crdt_kinds (names_view self.old.names.now) (tree.crdt_view crdt.now)) (kinds_view self.old)) }
+        ensures { OnOk result (kinds_view self.new ≡ with_kinds
+            (crdt_kinds (names_view self.old.names.now) (tree.crdt_view crdt.now)) (kinds_view self.old)) }
     {
         match &crdt.what {
             CrdtForm::SetAw(ty) => self.add_written(ty),
@@ -69,7 +70,8 @@ impl<'n, 'a> KindTable<'n, 'a> {
 
     #[cycle(crdts)]
     fn add_in_fields(&mut self, fields: &[FieldNode]) -> Result<(), Memory>
-        ensures { OnOk result (kinds_view self.new ≡ with_kinds (fields_kinds (names_view self.old.names.now) (tree.fields_view fields.now)) (kinds_view self.old)) }
+        ensures { OnOk result (kinds_view self.new ≡ with_kinds
+            (fields_kinds (names_view self.old.names.now) (tree.fields_view fields.now)) (kinds_view self.old)) }
     {
         for field in fields {
             self.add_crdt(&field.crdt)?;

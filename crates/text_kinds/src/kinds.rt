@@ -172,7 +172,12 @@ impl<'n, 'a> KindTable<'n, 'a> {
     {
         match place_of(kind.base) {
             Some(place) => {
-                found_in(self.own.as_slice(), self.maybes.as_slice(), place, kind.maybes)
+                found_in(
+                    self.own.as_slice(),
+                    self.maybes.as_slice(),
+                    place,
+                    kind.maybes,
+                )
             }
             None => None,
         }

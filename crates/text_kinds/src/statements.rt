@@ -39,7 +39,8 @@ impl<'n, 'a> Seeker<'n, 'a> {
 
     /// A value, if there is one, that goes where this type is asked.
     fn value(&mut self, kind: Kind, value: &'a Option<ExprNode>) -> Result<(), Memory>
-        ensures { OnOk result (seen self.new ≡ sought (seen self.old) (means.value_brings (names_view self.old.kinds.names.now) self.old.vars kind
+        ensures { OnOk result (seen self.new ≡ sought (seen self.old)
+            (means.value_brings (names_view self.old.kinds.names.now) self.old.vars kind
             (tree.optional tree.expr_view value.now))) }
     {
         match value {
@@ -58,9 +59,11 @@ impl<'n, 'a> Seeker<'n, 'a> {
         ensures { OnOk result (seen self.new ≡ seeing (sought (seen self.old) (parts (names_view self.old.kinds.names.now)
             (kind_of (names_view self.old.kinds.names.now) (tree.type_view ty.now))
             ++ means.value_brings (names_view self.old.kinds.names.now)
-            (means.with_variable (names_view self.old.kinds.names.now) self.old.vars (tree.ident_view name.now) (tree.type_view ty.now))
+            (means.with_variable (names_view self.old.kinds.names.now) self.old.vars (tree.ident_view name.now)
+            (tree.type_view ty.now))
             (kind_of (names_view self.old.kinds.names.now) (tree.type_view ty.now)) (tree.optional tree.expr_view value.now)))
-            (means.with_variable (names_view self.old.kinds.names.now) self.old.vars (tree.ident_view name.now) (tree.type_view ty.now))) }
+            (means.with_variable (names_view self.old.kinds.names.now) self.old.vars (tree.ident_view name.now)
+            (tree.type_view ty.now))) }
     {
         let kind = self.written(ty)?;
         self.bind(name, kind)?;
@@ -68,7 +71,8 @@ impl<'n, 'a> Seeker<'n, 'a> {
     }
 
     fn assigned(&mut self, name: &'a Ident, value: &'a ExprNode) -> Result<(), Memory>
-        ensures { OnOk result (seen self.new ≡ sought (seen self.old) (means.expr_brings (names_view self.old.kinds.names.now) self.old.vars
+        ensures { OnOk result (seen self.new ≡ sought (seen self.old)
+            (means.expr_brings (names_view self.old.kinds.names.now) self.old.vars
             (Some (var_kind (find_var self.old.vars name.now.text))) (tree.expr_view value.now))) }
     {
         let kind = match self.vars.find(name.text.as_slice()) {
@@ -81,8 +85,10 @@ impl<'n, 'a> Seeker<'n, 'a> {
     /// Adds what a statement brings, in a procedure with this result.
     #[cycle(stmts)]
     fn stmt(&mut self, kind: Kind, stmt: &'a StmtNode) -> Result<(), Memory>
-        ensures { OnOk result (seen self.new ≡ seeing (sought (seen self.old) (means.stmt_brings (names_view self.old.kinds.names.now) self.old.vars
-            kind (tree.stmt_view stmt.now))) (means.vars_behind (names_view self.old.kinds.names.now) self.old.vars (tree.stmt_view stmt.now))) }
+        ensures { OnOk result (seen self.new ≡ seeing (sought (seen self.old)
+            (means.stmt_brings (names_view self.old.kinds.names.now) self.old.vars
+            kind (tree.stmt_view stmt.now))) (means.vars_behind (names_view self.old.kinds.names.now) self.old.vars
+            (tree.stmt_view stmt.now))) }
     {
         match &stmt.what {
             StmtForm::Var(name, ty, value) => self.variable(name, ty, value),
@@ -110,7 +116,8 @@ impl<'n, 'a> Seeker<'n, 'a> {
 
     #[cycle(stmts)]
     fn otherwise(&mut self, kind: Kind, otherwise: &'a ElseNode) -> Result<(), Memory>
-        ensures { OnOk result (seen self.new ≡ sought (seen self.old) (means.else_brings (names_view self.old.kinds.names.now) self.old.vars kind
+        ensures { OnOk result (seen self.new ≡ sought (seen self.old)
+            (means.else_brings (names_view self.old.kinds.names.now) self.old.vars kind
             (tree.else_view otherwise.now))) }
     {
         match otherwise {
@@ -127,7 +134,8 @@ impl<'n, 'a> Seeker<'n, 'a> {
     /// The variables that a block declares go out of sight behind it.
     #[cycle(stmts)]
     fn block(&mut self, kind: Kind, block: &'a Block) -> Result<(), Memory>
-        ensures { OnOk result (seen self.new ≡ sought (seen self.old) (means.block_brings (names_view self.old.kinds.names.now) self.old.vars kind
+        ensures { OnOk result (seen self.new ≡ sought (seen self.old)
+            (means.block_brings (names_view self.old.kinds.names.now) self.old.vars kind
             (tree.block_view block.now))) }
     {
         let len = self.vars.len();
@@ -138,8 +146,10 @@ impl<'n, 'a> Seeker<'n, 'a> {
 
     #[cycle(stmts)]
     fn stmts(&mut self, kind: Kind, stmts: &'a [StmtNode]) -> Result<(), Memory>
-        ensures { OnOk result (seen self.new ≡ seeing (sought (seen self.old) (means.stmts_bring (names_view self.old.kinds.names.now) self.old.vars
-            kind (tree.stmts_view stmts.now))) (means.stmts_behind (names_view self.old.kinds.names.now) self.old.vars (tree.stmts_view stmts.now))) }
+        ensures { OnOk result (seen self.new ≡ seeing (sought (seen self.old)
+            (means.stmts_bring (names_view self.old.kinds.names.now) self.old.vars
+            kind (tree.stmts_view stmts.now))) (means.stmts_behind (names_view self.old.kinds.names.now) self.old.vars
+            (tree.stmts_view stmts.now))) }
     {
         for stmt in stmts {
             self.stmt(kind, stmt)?;
@@ -150,7 +160,8 @@ impl<'n, 'a> Seeker<'n, 'a> {
     /// The arms for a term of this own type.
     #[cycle(stmts)]
     fn block_arms(&mut self, kind: Kind, own: Kind, arms: &'a [BlockArm]) -> Result<(), Memory>
-        ensures { OnOk result (seen self.new ≡ sought (seen self.old) (means.block_arms_bring (names_view self.old.kinds.names.now) self.old.vars kind
+        ensures { OnOk result (seen self.new ≡ sought (seen self.old)
+            (means.block_arms_bring (names_view self.old.kinds.names.now) self.old.vars kind
             own (tree.block_arms_view arms.now))) }
     {
         for arm in arms {
@@ -161,7 +172,8 @@ impl<'n, 'a> Seeker<'n, 'a> {
 
     #[cycle(stmts)]
     fn block_arm(&mut self, kind: Kind, own: Kind, arm: &'a BlockArm) -> Result<(), Memory>
-        ensures { OnOk result (seen self.new ≡ sought (seen self.old) (means.block_arm_brings (names_view self.old.kinds.names.now) self.old.vars kind
+        ensures { OnOk result (seen self.new ≡ sought (seen self.old)
+            (means.block_arm_brings (names_view self.old.kinds.names.now) self.old.vars kind
             own (tree.block_arm_view arm.now))) }
     {
         let len = self.vars.len();
@@ -185,7 +197,9 @@ impl<'n, 'a> Seeker<'n, 'a> {
     }
 
     pub(crate) fn query(&mut self, query: &'a QueryNode) -> Result<(), Memory>
-        ensures { self.old.vars ≡ [] → OnOk result (kinds_view self.new.kinds ≡ with_kinds (means.query_brings (names_view self.old.kinds.names.now) (tree.query_view query.now)) (kinds_view self.old.kinds)) }
+        ensures { self.old.vars ≡ [] → OnOk result (kinds_view self.new.kinds
+            ≡ with_kinds (means.query_brings (names_view self.old.kinds.names.now) (tree.query_view query.now))
+            (kinds_view self.old.kinds)) }
     {
         self.params(query.params.as_slice())?;
         let kind = self.written(&query.result)?;
@@ -196,7 +210,8 @@ impl<'n, 'a> Seeker<'n, 'a> {
     fn result(&mut self, ty: &'a Option<TypeNode>) -> Result<Kind, Memory>
         ensures kind { IfOk result (λ kind. kind ≡ result_kind (option_map (kind_of (names_view self.old.kinds.names.now))
             (tree.optional tree.type_view ty.now))) }
-        ensures sought { OnOk result (seen self.new ≡ sought (seen self.old) (means.result_brings (names_view self.old.kinds.names.now)
+        ensures sought { OnOk result (seen self.new ≡ sought (seen self.old)
+            (means.result_brings (names_view self.old.kinds.names.now)
             (tree.optional tree.type_view ty.now))) }
     {
         match ty {
@@ -206,7 +221,9 @@ impl<'n, 'a> Seeker<'n, 'a> {
     }
 
     pub(crate) fn proc(&mut self, proc: &'a ProcNode) -> Result<(), Memory>
-        ensures { self.old.vars ≡ [] → OnOk result (kinds_view self.new.kinds ≡ with_kinds (means.proc_brings (names_view self.old.kinds.names.now) (tree.proc_view proc.now)) (kinds_view self.old.kinds)) }
+        ensures { self.old.vars ≡ [] → OnOk result (kinds_view self.new.kinds
+            ≡ with_kinds (means.proc_brings (names_view self.old.kinds.names.now) (tree.proc_view proc.now))
+            (kinds_view self.old.kinds)) }
     {
         self.params(proc.params.as_slice())?;
         let kind = self.result(&proc.result)?;
@@ -215,7 +232,9 @@ impl<'n, 'a> Seeker<'n, 'a> {
 
     /// Adds what a declaration brings, before which so many types are declared.
     pub(crate) fn decl(&mut self, types: u32, decl: &'a DeclForm) -> Result<(), Memory>
-        ensures { self.old.vars ≡ [] → OnOk result (kinds_view self.new.kinds ≡ with_kinds (means.decl_brings (names_view self.old.kinds.names.now) types (tree.decl_form_view decl.now)) (kinds_view self.old.kinds)) }
+        ensures { self.old.vars ≡ [] → OnOk result (kinds_view self.new.kinds
+            ≡ with_kinds (means.decl_brings (names_view self.old.kinds.names.now) types (tree.decl_form_view decl.now))
+            (kinds_view self.old.kinds)) }
     {
         match decl {
             DeclForm::IdType(_) => Ok(()),

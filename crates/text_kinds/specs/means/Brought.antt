@@ -47,8 +47,10 @@ abbrev mutual
   form_brings n vs asked (ExprForm.or es) = operands_bring n vs es
   form_brings n vs asked (ExprForm.and es) = operands_bring n vs es
   form_brings n vs asked (ExprForm.not e) = expr_brings n vs (Some bool_kind) e
-  form_brings n vs asked (ExprForm.forall p e) = parts n (kind_of n (param_type p)) ++ expr_brings n (vs ++ quantified_var n p ∷ []) (Some bool_kind) e
-  form_brings n vs asked (ExprForm.exists p e) = parts n (kind_of n (param_type p)) ++ expr_brings n (vs ++ quantified_var n p ∷ []) (Some bool_kind) e
+  form_brings n vs asked (ExprForm.forall p e) =
+      parts n (kind_of n (param_type p)) ++ expr_brings n (vs ++ quantified_var n p ∷ []) (Some bool_kind) e
+  form_brings n vs asked (ExprForm.exists p e) =
+      parts n (kind_of n (param_type p)) ++ expr_brings n (vs ++ quantified_var n p ∷ []) (Some bool_kind) e
   form_brings n vs asked (ExprForm.compare c a b) =
       expr_brings n vs (left_want n vs c a b).asked a ++ expr_brings n vs (right_want n vs c a b).asked b
   form_brings n vs asked (ExprForm.plus a b) = expr_brings n vs (Some int_kind) a ++ expr_brings n vs (Some int_kind) b
@@ -72,7 +74,8 @@ abbrev mutual
   -- arguments that are to have these types
   pub args_bring : Names → List Var → List Kind → ExprTrees → List Kind
   args_bring n vs ks ExprTrees.no_exprs = []
-  args_bring n vs ks (ExprTrees.more_exprs e es) = expr_brings n vs (Some (first_kind ks)) e ++ args_bring n vs (other_kinds ks) es
+  args_bring n vs ks (ExprTrees.more_exprs e es) =
+      expr_brings n vs (Some (first_kind ks)) e ++ args_bring n vs (other_kinds ks) es
 
   -- arms for a term of this type
   pub arms_bring : Names → List Var → Kind → ExprArmTrees → List Kind
@@ -158,7 +161,8 @@ abbrev mutual
   -- arms for a term of this type
   pub block_arms_bring : Names → List Var → Kind → Kind → BlockArmTrees → List Kind
   block_arms_bring n vs r k BlockArmTrees.no_block_arms = []
-  block_arms_bring n vs r k (BlockArmTrees.more_block_arms one arms) = block_arm_brings n vs r k one ++ block_arms_bring n vs r k arms
+  block_arms_bring n vs r k (BlockArmTrees.more_block_arms one arms) =
+      block_arm_brings n vs r k one ++ block_arms_bring n vs r k arms
 
   pub block_arm_brings : Names → List Var → Kind → Kind → BlockArmTree → List Kind
   block_arm_brings n vs r k (BlockArmTree.arm p b) = block_brings n (behind_pattern n vs k p) r b
@@ -187,7 +191,8 @@ result_brings n (Some t) = parts n (kind_of n t)
 
 abbrev pub proc_brings : Names → ProcTree → List Kind
 proc_brings n (ProcTree.proc x params result body) =
-    params_bring n params ++ result_brings n result ++ block_brings n (param_vars n params) (result_kind (option_map (kind_of n) result)) body
+    params_bring n params ++ result_brings n result
+    ++ block_brings n (param_vars n params) (result_kind (option_map (kind_of n) result)) body
 
 -- before which so many types are declared
 abbrev pub decl_brings : Names → ℕ → DeclForm → List Kind

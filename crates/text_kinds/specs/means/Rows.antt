@@ -99,8 +99,10 @@ abbrev pub with_row : List (List Numbers) → ℕ → Numbers → List (List Num
 with_row maybes place x = option_map_or (λ row. slice_set maybes place (row ++ x ∷ [])) (slice_get maybes place) maybes
 
 -- each datatype is found by its place, and with a declared type all its parts are there
-pub record AreRows (n : Names) (kinds : List Kind) (cons : ℕ) (own : List (Option Numbers)) (maybes : List (List Numbers)) : Type 0 where
+pub record AreRows (n : Names) (kinds : List Kind) (cons : ℕ) (own : List (Option Numbers))
+    (maybes : List (List Numbers)) : Type 0 where
   pub found : (b : Base) (many place : ℕ) → place_of b ≡ Some place
       → found_in own maybes place many ≡ numbers_in n 0 0 kinds (record { base = b; maybes = many })
   pub cons_are : cons ≡ length (flat_map (cons_of n) kinds)
-  pub whole : (type : ℕ) → has_kind kinds (plain_kind (base.Declared type)) ≡ true → are_there kinds (declared_parts n type) ≡ true
+  pub whole : (type : ℕ) → has_kind kinds (plain_kind (base.Declared type)) ≡ true
+      → are_there kinds (declared_parts n type) ≡ true

@@ -16,4 +16,5 @@ returns-in-Some c =
 pub returns-in-None : goal.returns-in-None
 returns-in-None c =
     let n = names_view c.args.names.now in
-    ap (λ cs. case_fields (case_named cs c.args.name.now)) (ap (option_map (cases_view n)) (sym c.in-None.is) ∙ c.cases_of.ensures)
+    ap (λ cs. case_fields (case_named cs c.args.name.now)) (ap (option_map (cases_view n)) (sym c.in-None.is)
+    ∙ c.cases_of.ensures)

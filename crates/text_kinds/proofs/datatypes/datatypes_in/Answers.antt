@@ -36,7 +36,8 @@ loop-decl-preserved c =
     record {
       none = ap (λ (s : Seen). s.vars) c.leave.ensures;
       names = ap (λ (t : Numbered). t.names) one ∙ before.names;
-      comes = kinds_on start old new (decls_bring n types (decls_view (drop i decls))) (decls_bring n c.in-Some.more (decls_view (drop (i + 1) decls)))
+      comes = kinds_on start old new (decls_bring n types (decls_view (drop i decls)))
+          (decls_bring n c.in-Some.more (decls_view (drop (i + 1) decls)))
           (decls_bring n 0 (decls_view decls)) f before.names before.comes
           (ap (λ (xs : List Decl). decls_bring n types (decls_view xs)) (rest_is decls i x c.loop-decl-test.true c.decl-item.is)
           ∙ ap (λ k. f n ++ decls_bring n k (decls_view (drop (i + 1) decls))) (sym more))
@@ -52,4 +53,5 @@ returns c =
     ap (λ (xs : List Decl). with_kinds (decls_bring n c.loop-decl.types (decls_view xs)) end)
     (sym (drop_past c.args.decls.now c.loop-decl.decl-index c.loop-decl-test.false))
     ∙ left.comes
-    ∙ ap (numbered n) (each_first bool_kind (decls_bring n 0 ds) ∙ ap (λ (ks : List Kind). each_once (bool_kind ∷ ks)) (sym (from_law n 0 0 ds)))
+    ∙ ap (numbered n) (each_first bool_kind (decls_bring n 0 ds) ∙ ap (λ (ks : List Kind). each_once (bool_kind ∷ ks))
+    (sym (from_law n 0 0 ds)))

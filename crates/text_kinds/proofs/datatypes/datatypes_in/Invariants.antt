@@ -11,6 +11,7 @@ abbrev pub invariant-loop-decl : goal.invariant-loop-decl
 invariant-loop-decl l = record {
   none : l.seeker.vars ≡ [];
   names : names_view l.seeker.kinds.names.now ≡ names_view l.names;
-  comes : with_kinds (decls_bring (names_view l.names) l.types (decls_view (drop l.decl-index l.decls))) (kinds_view l.seeker.kinds)
+  comes : with_kinds (decls_bring (names_view l.names) l.types (decls_view (drop l.decl-index l.decls)))
+      (kinds_view l.seeker.kinds)
       ≡ with_kinds (decls_bring (names_view l.names) 0 (decls_view l.decls)) (numbered (names_view l.names) (bool_kind ∷ []));
 }

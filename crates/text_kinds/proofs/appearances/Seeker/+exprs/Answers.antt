@@ -40,9 +40,11 @@ operands-loop-operand-preserved t c =
     let x = c.operand-item.result in
     let f : Names → List Var → List Kind = λ m vs. expr_brings m vs (Some bool_kind) (expr_view x) in
     goes_on (seen start) (seen c.loop-operand.self) (seen c.expr.new.self)
-    (operands_bring n start.vars (exprs_view (drop i es))) (operands_bring n start.vars (exprs_view (drop (i + 1) es))) (operands_bring n start.vars (exprs_view es)) f
+    (operands_bring n start.vars (exprs_view (drop i es))) (operands_bring n start.vars (exprs_view (drop (i + 1) es)))
+    (operands_bring n start.vars (exprs_view es)) f
     c.loop-operand.invariant
-    (ap (λ (xs : List ExprNode). operands_bring n start.vars (exprs_view xs)) (rest_is es i x c.loop-operand-test.true c.operand-item.is))
+    (ap (λ (xs : List ExprNode). operands_bring n start.vars (exprs_view xs))
+    (rest_is es i x c.loop-operand-test.true c.operand-item.is))
     c.in_ok-expr.ensures
 
 pub arms-loop-arm-preserved : goal.arms-loop-arm-preserved
@@ -54,9 +56,11 @@ arms-loop-arm-preserved t c =
     let x = c.arm-item.result in
     let f : Names → List Var → List Kind = λ m vs. arm_brings m vs c.args.kind (expr_arm_view x) in
     goes_on (seen start) (seen c.loop-arm.self) (seen c.arm.new.self)
-    (arms_bring n start.vars c.args.kind (expr_arms_view (drop i arms))) (arms_bring n start.vars c.args.kind (expr_arms_view (drop (i + 1) arms)))
+    (arms_bring n start.vars c.args.kind (expr_arms_view (drop i arms)))
+    (arms_bring n start.vars c.args.kind (expr_arms_view (drop (i + 1) arms)))
     (arms_bring n start.vars c.args.kind (expr_arms_view arms)) f c.loop-arm.invariant
-    (ap (λ (xs : List ExprArm). arms_bring n start.vars c.args.kind (expr_arms_view xs)) (rest_is arms i x c.loop-arm-test.true c.arm-item.is))
+    (ap (λ (xs : List ExprArm). arms_bring n start.vars c.args.kind (expr_arms_view xs))
+    (rest_is arms i x c.loop-arm-test.true c.arm-item.is))
     c.in_ok-arm.ensures
 
 pub arm-returns : goal.arm-returns
@@ -69,8 +73,10 @@ arm-returns t c =
     let f : Names → List Var → List Kind = λ m ws. expr_brings m ws (Some bool_kind) (expr_view c.args.arm.now.body) in
     left_sought (seen start) (seen c.bind_all.new.self) (seen c.expr.new.self) (seen c.leave.new.self) vs more.0 f more.1
     c.in_ok-bind_all.ensures c.in_ok-expr.ensures
-    (c.leave.ensures ∙ ap (λ len. record { vars = take len c.expr.new.self.vars; kinds = (seen c.expr.new.self).kinds }) c.len-len.ensures)
-    ∙ ap (λ arm. record (seen start) { kinds = (sought (seen start) (arm_brings n start.vars c.args.kind arm)).kinds }) (sym (expr_arm_view-parts c.args.arm.now))
+    (c.leave.ensures ∙ ap (λ len. record { vars = take len c.expr.new.self.vars; kinds = (seen c.expr.new.self).kinds })
+    c.len-len.ensures)
+    ∙ ap (λ arm. record (seen start) { kinds = (sought (seen start) (arm_brings n start.vars c.args.kind arm)).kinds })
+    (sym (expr_arm_view-parts c.args.arm.now))
 
 pub args-loop-place-preserved : goal.args-loop-place-preserved
 args-loop-place-preserved t c =
@@ -83,12 +89,16 @@ args-loop-place-preserved t c =
     let ks : Names → List Kind = λ m. args_of m (access_view m c.args.what) in
     let f : Names → List Var → List Kind = λ m vs. expr_brings m vs (Some (first_kind (drop i (ks m)))) (expr_view x) in
     goes_on (seen start) (seen old) (seen c.expr.new.self)
-    (args_bring n start.vars (drop i (ks n)) (exprs_view (drop i args))) (args_bring n start.vars (drop (i + 1) (ks n)) (exprs_view (drop (i + 1) args)))
+    (args_bring n start.vars (drop i (ks n)) (exprs_view (drop i args)))
+    (args_bring n start.vars (drop (i + 1) (ks n)) (exprs_view (drop (i + 1) args)))
     (args_bring n start.vars (ks n) (exprs_view args)) f c.loop-place.invariant
-    (ap (λ (xs : List ExprNode). args_bring n start.vars (drop i (ks n)) (exprs_view xs)) (rest_is args i x c.loop-place-test.true c.index-args-place.is)
+    (ap (λ (xs : List ExprNode). args_bring n start.vars (drop i (ks n)) (exprs_view xs))
+    (rest_is args i x c.loop-place-test.true c.index-args-place.is)
     ∙ ap (λ js. f n start.vars ++ args_bring n start.vars js (exprs_view (drop (i + 1) args))) (other_dropped (ks n) i))
-    (c.in_ok-expr.ensures ∙ ap (λ k. sought (seen old) (expr_brings (names_view old.kinds.names.now) old.vars (Some k) (expr_view x)))
-    (c.in_ok-kind.ensures ∙ ap (λ m. first_kind (drop i (args_of m (access_view m c.args.what)))) (ap names_view c.names.ensures)))
+    (c.in_ok-expr.ensures ∙ ap (λ k. sought (seen old) (expr_brings (names_view old.kinds.names.now) old.vars (Some k)
+    (expr_view x)))
+    (c.in_ok-kind.ensures ∙ ap (λ m. first_kind (drop i (args_of m (access_view m c.args.what))))
+    (ap names_view c.names.ensures)))
 
 pub expr-returns-in_ok-expr-in-Implies : goal.expr-returns-in_ok-expr-in-Implies
 expr-returns-in_ok-expr-in-Implies t c =
@@ -99,10 +109,13 @@ expr-returns-in_ok-expr-in-Implies t c =
     on_ok c.expr-in-Implies.result
     (λ e. both_as start mid (seen c.expr-in-Implies.new.self)
     (λ m vs. expr_brings m vs (Some bool_kind) (expr_view l)) (λ m vs. expr_brings m vs (Some bool_kind) (expr_view r)) _
-    (c.in_ok-expr-in-Implies.ensures ∙ ap (λ (x : ExprNode). sought start (expr_brings start.kinds.names start.vars (Some bool_kind) (expr_view x))) c.get.ensures)
-    (e ∙ ap (λ (x : ExprNode). sought mid (expr_brings mid.kinds.names mid.vars (Some bool_kind) (expr_view x))) c.get-in-Implies.ensures)
+    (c.in_ok-expr-in-Implies.ensures ∙ ap (λ (x : ExprNode). sought start
+    (expr_brings start.kinds.names start.vars (Some bool_kind) (expr_view x))) c.get.ensures)
+    (e ∙ ap (λ (x : ExprNode). sought mid (expr_brings mid.kinds.names mid.vars (Some bool_kind) (expr_view x)))
+    c.get-in-Implies.ensures)
     (ap (expr_brings start.kinds.names start.vars c.args.asked) (expr_view-parts c.args.e.now)
-    ∙ ap (form_brings start.kinds.names start.vars c.args.asked) (ap expr_form_view c.in-Implies.is ∙ expr_form_view-Implies l r)))
+    ∙ ap (form_brings start.kinds.names start.vars c.args.asked)
+    (ap expr_form_view c.in-Implies.is ∙ expr_form_view-Implies l r)))
     c.expr-in-Implies.ensures
 
 pub expr-returns-in_ok-expr-in-Plus : goal.expr-returns-in_ok-expr-in-Plus
@@ -114,8 +127,10 @@ expr-returns-in_ok-expr-in-Plus t c =
     on_ok c.expr-in-Plus-2.result
     (λ e. both_as start mid (seen c.expr-in-Plus-2.new.self)
     (λ m vs. expr_brings m vs (Some int_kind) (expr_view l)) (λ m vs. expr_brings m vs (Some int_kind) (expr_view r)) _
-    (c.in_ok-expr-in-Plus.ensures ∙ ap (λ (x : ExprNode). sought start (expr_brings start.kinds.names start.vars (Some int_kind) (expr_view x))) c.get-in-Plus.ensures)
-    (e ∙ ap (λ (x : ExprNode). sought mid (expr_brings mid.kinds.names mid.vars (Some int_kind) (expr_view x))) c.get-in-Plus-2.ensures)
+    (c.in_ok-expr-in-Plus.ensures ∙ ap (λ (x : ExprNode). sought start
+    (expr_brings start.kinds.names start.vars (Some int_kind) (expr_view x))) c.get-in-Plus.ensures)
+    (e ∙ ap (λ (x : ExprNode). sought mid (expr_brings mid.kinds.names mid.vars (Some int_kind) (expr_view x)))
+    c.get-in-Plus-2.ensures)
     (ap (expr_brings start.kinds.names start.vars c.args.asked) (expr_view-parts c.args.e.now)
     ∙ ap (form_brings start.kinds.names start.vars c.args.asked) (ap expr_form_view c.in-Plus.is ∙ expr_form_view-Plus l r)))
     c.expr-in-Plus-2.ensures
@@ -129,8 +144,10 @@ expr-returns-in_ok-expr-in-Minus t c =
     on_ok c.expr-in-Minus-2.result
     (λ e. both_as start mid (seen c.expr-in-Minus-2.new.self)
     (λ m vs. expr_brings m vs (Some int_kind) (expr_view l)) (λ m vs. expr_brings m vs (Some int_kind) (expr_view r)) _
-    (c.in_ok-expr-in-Minus.ensures ∙ ap (λ (x : ExprNode). sought start (expr_brings start.kinds.names start.vars (Some int_kind) (expr_view x))) c.get-in-Minus.ensures)
-    (e ∙ ap (λ (x : ExprNode). sought mid (expr_brings mid.kinds.names mid.vars (Some int_kind) (expr_view x))) c.get-in-Minus-2.ensures)
+    (c.in_ok-expr-in-Minus.ensures ∙ ap (λ (x : ExprNode). sought start
+    (expr_brings start.kinds.names start.vars (Some int_kind) (expr_view x))) c.get-in-Minus.ensures)
+    (e ∙ ap (λ (x : ExprNode). sought mid (expr_brings mid.kinds.names mid.vars (Some int_kind) (expr_view x)))
+    c.get-in-Minus-2.ensures)
     (ap (expr_brings start.kinds.names start.vars c.args.asked) (expr_view-parts c.args.e.now)
     ∙ ap (form_brings start.kinds.names start.vars c.args.asked) (ap expr_form_view c.in-Minus.is ∙ expr_form_view-Minus l r)))
     c.expr-in-Minus-2.ensures
@@ -144,14 +161,19 @@ word-loop-place-preserved t c =
     let i = c.loop-place.place in
     let x = c.index-args-place.result in
     let ks = word_args n start.vars c.args.word (exprs_view args) in
-    let f : Names → List Var → List Kind = λ m vs. expr_brings m vs (Some (first_kind (drop i (word_args m vs c.args.word (exprs_view args))))) (expr_view x) in
+    let f : Names → List Var → List Kind = λ m vs. expr_brings m vs
+    (Some (first_kind (drop i (word_args m vs c.args.word (exprs_view args))))) (expr_view x) in
     goes_on (seen start) (seen old) (seen c.expr.new.self)
-    (args_bring n start.vars (drop i ks) (exprs_view (drop i args))) (args_bring n start.vars (drop (i + 1) ks) (exprs_view (drop (i + 1) args)))
+    (args_bring n start.vars (drop i ks) (exprs_view (drop i args)))
+    (args_bring n start.vars (drop (i + 1) ks) (exprs_view (drop (i + 1) args)))
     (args_bring n start.vars ks (exprs_view args)) f c.loop-place.invariant
-    (ap (λ (xs : List ExprNode). args_bring n start.vars (drop i ks) (exprs_view xs)) (rest_is args i x c.loop-place-test.true c.index-args-place.is)
+    (ap (λ (xs : List ExprNode). args_bring n start.vars (drop i ks) (exprs_view xs))
+    (rest_is args i x c.loop-place-test.true c.index-args-place.is)
     ∙ ap (λ js. f n start.vars ++ args_bring n start.vars js (exprs_view (drop (i + 1) args))) (other_dropped ks i))
-    (c.in_ok-expr.ensures ∙ ap (λ k. sought (seen old) (expr_brings (names_view old.kinds.names.now) old.vars (Some k) (expr_view x)))
-    (c.in_ok-kind.ensures ∙ ap (λ m. first_kind (drop i (word_args m old.vars c.args.word (exprs_view args)))) (ap names_view c.names.ensures)))
+    (c.in_ok-expr.ensures ∙ ap (λ k. sought (seen old) (expr_brings (names_view old.kinds.names.now) old.vars (Some k)
+    (expr_view x)))
+    (c.in_ok-kind.ensures ∙ ap (λ m. first_kind (drop i (word_args m old.vars c.args.word (exprs_view args))))
+    (ap names_view c.names.ensures)))
 
 pub expr-returns-in-Forall : goal.expr-returns-in-Forall
 expr-returns-in-Forall t c =
@@ -160,10 +182,12 @@ expr-returns-in-Forall t c =
     let p = param_view c.in-Forall.param in
     on_ok c.quantified.result
     (λ e. e
-    ∙ ap (λ (x : ExprNode). sought start (parts n (kind_of n (param_type p)) ++ expr_brings n (start.vars ++ quantified_var n p ∷ []) (Some bool_kind) (expr_view x)))
+    ∙ ap (λ (x : ExprNode). sought start (parts n (kind_of n (param_type p))
+    ++ expr_brings n (start.vars ++ quantified_var n p ∷ []) (Some bool_kind) (expr_view x)))
     c.get-in-Forall-2.ensures
     ∙ ap (sought start) (sym (ap (expr_brings n start.vars c.args.asked) (expr_view-parts c.args.e.now)
-    ∙ ap (form_brings n start.vars c.args.asked) (ap expr_form_view c.in-Forall.is ∙ expr_form_view-Forall c.in-Forall.param c.in-Forall.body))))
+    ∙ ap (form_brings n start.vars c.args.asked) (ap expr_form_view c.in-Forall.is ∙ expr_form_view-Forall c.in-Forall.param
+    c.in-Forall.body))))
     (c.quantified.ensures p (ap param_view (sym c.get-in-Forall.ensures)))
 
 pub expr-returns-in-Exists : goal.expr-returns-in-Exists
@@ -173,10 +197,12 @@ expr-returns-in-Exists t c =
     let p = param_view c.in-Exists.param in
     on_ok c.quantified-in-Exists.result
     (λ e. e
-    ∙ ap (λ (x : ExprNode). sought start (parts n (kind_of n (param_type p)) ++ expr_brings n (start.vars ++ quantified_var n p ∷ []) (Some bool_kind) (expr_view x)))
+    ∙ ap (λ (x : ExprNode). sought start (parts n (kind_of n (param_type p))
+    ++ expr_brings n (start.vars ++ quantified_var n p ∷ []) (Some bool_kind) (expr_view x)))
     c.get-in-Exists-2.ensures
     ∙ ap (sought start) (sym (ap (expr_brings n start.vars c.args.asked) (expr_view-parts c.args.e.now)
-    ∙ ap (form_brings n start.vars c.args.asked) (ap expr_form_view c.in-Exists.is ∙ expr_form_view-Exists c.in-Exists.param c.in-Exists.body))))
+    ∙ ap (form_brings n start.vars c.args.asked) (ap expr_form_view c.in-Exists.is ∙ expr_form_view-Exists c.in-Exists.param
+    c.in-Exists.body))))
     (c.quantified-in-Exists.ensures p (ap param_view (sym c.get-in-Exists.ensures)))
 
 pub expr-returns-in_ok-expr-in-Compare : goal.expr-returns-in_ok-expr-in-Compare
@@ -190,15 +216,20 @@ expr-returns-in_ok-expr-in-Compare t c =
     let r = c.in-Compare.right in
     let first : c.in_ok-first-in-Compare.first ≡ (left_want n vs op (expr_view l) (expr_view r)).asked =
     c.in_ok-first-in-Compare.ensures
-    ∙ ap₂ (λ (x y : ExprNode). (left_want n vs op (expr_view x) (expr_view y)).asked) c.get-in-Compare.ensures c.get-in-Compare-2.ensures in
+    ∙ ap₂ (λ (x y : ExprNode). (left_want n vs op (expr_view x) (expr_view y)).asked) c.get-in-Compare.ensures
+    c.get-in-Compare-2.ensures in
     let second : c.in_ok-second-in-Compare.second ≡ (right_want n vs op (expr_view l) (expr_view r)).asked =
     c.in_ok-second-in-Compare.ensures
-    ∙ ap₂ (λ (x y : ExprNode). (right_want n vs op (expr_view x) (expr_view y)).asked) c.get-in-Compare-3.ensures c.get-in-Compare-4.ensures in
+    ∙ ap₂ (λ (x y : ExprNode). (right_want n vs op (expr_view x) (expr_view y)).asked) c.get-in-Compare-3.ensures
+    c.get-in-Compare-4.ensures in
     on_ok c.expr-in-Compare-2.result
     (λ e. both_as start mid (seen c.expr-in-Compare-2.new.self)
-    (λ m ws. expr_brings m ws c.in_ok-first-in-Compare.first (expr_view l)) (λ m ws. expr_brings m ws c.in_ok-second-in-Compare.second (expr_view r)) _
-    (c.in_ok-expr-in-Compare.ensures ∙ ap (λ (x : ExprNode). sought start (expr_brings n vs c.in_ok-first-in-Compare.first (expr_view x))) c.get-in-Compare-5.ensures)
-    (e ∙ ap (λ (x : ExprNode). sought mid (expr_brings mid.kinds.names mid.vars c.in_ok-second-in-Compare.second (expr_view x))) c.get-in-Compare-6.ensures)
+    (λ m ws. expr_brings m ws c.in_ok-first-in-Compare.first (expr_view l))
+    (λ m ws. expr_brings m ws c.in_ok-second-in-Compare.second (expr_view r)) _
+    (c.in_ok-expr-in-Compare.ensures ∙ ap (λ (x : ExprNode). sought start
+    (expr_brings n vs c.in_ok-first-in-Compare.first (expr_view x))) c.get-in-Compare-5.ensures)
+    (e ∙ ap (λ (x : ExprNode). sought mid (expr_brings mid.kinds.names mid.vars c.in_ok-second-in-Compare.second (expr_view x)))
+    c.get-in-Compare-6.ensures)
     (ap (expr_brings n vs c.args.asked) (expr_view-parts c.args.e.now)
     ∙ ap (form_brings n vs c.args.asked) (ap expr_form_view c.in-Compare.is ∙ expr_form_view-Compare op l r)
     ∙ sym (ap₂ (λ a b. expr_brings n vs a (expr_view l) ++ expr_brings n vs b (expr_view r)) first second)))
@@ -215,9 +246,11 @@ keys-loop-step-preserved t c =
     let way = way_view n c.loop-step.way in
     let f : Names → List Var → List Kind = λ m vs. key_brings m vs (way_view m c.loop-step.way) (step_view x) in
     goes_on (seen start) (seen old) (seen c.key.new.self)
-    (steps_bring n start.vars way (steps_view (drop i steps))) (steps_bring n start.vars (way_view n c.in_ok-way.way) (steps_view (drop (i + 1) steps)))
+    (steps_bring n start.vars way (steps_view (drop i steps)))
+    (steps_bring n start.vars (way_view n c.in_ok-way.way) (steps_view (drop (i + 1) steps)))
     (steps_bring n start.vars (way_view n c.args.way) (steps_view steps)) f c.loop-step.invariant
-    (ap (λ (xs : List AccessStep). steps_bring n start.vars way (steps_view xs)) (rest_is steps i x c.loop-step-test.true c.step-item.is)
+    (ap (λ (xs : List AccessStep). steps_bring n start.vars way (steps_view xs))
+    (rest_is steps i x c.loop-step-test.true c.step-item.is)
     ∙ ap (λ w. f n start.vars ++ steps_bring n start.vars w (steps_view (drop (i + 1) steps))) (sym (c.in_ok-way.ensures n)))
     c.in_ok-key.ensures
 
@@ -230,12 +263,16 @@ expr-returns-in_ok-expr-in-Match t c =
     let term = c.in-Match.term in
     let kind : c.in_ok-kind-in-Match.kind ≡ type_of n vs None (expr_view term) =
     c.in_ok-kind-in-Match.ensures
-    ∙ ap₂ (λ m (x : ExprNode). type_of m vs None (expr_view x)) (ap names_view c.names-in-Match.ensures) c.get-in-Match.ensures in
+    ∙ ap₂ (λ m (x : ExprNode). type_of m vs None (expr_view x)) (ap names_view c.names-in-Match.ensures) c.get-in-Match.ensures
+    in
     on_ok c.arms.result
     (λ e. both_as start mid (seen c.arms.new.self)
-    (λ m ws. expr_brings m ws None (expr_view term)) (λ m ws. arms_bring m ws c.in_ok-kind-in-Match.kind (expr_arms_view c.in-Match.arms)) _
-    (c.in_ok-expr-in-Match.ensures ∙ ap (λ (x : ExprNode). sought start (expr_brings n vs None (expr_view x))) c.get-in-Match-2.ensures)
-    (e ∙ ap (λ (xs : List ExprArm). sought mid (arms_bring mid.kinds.names mid.vars c.in_ok-kind-in-Match.kind (expr_arms_view xs))) c.as_slice-in-Match.ensures.items)
+    (λ m ws. expr_brings m ws None (expr_view term))
+    (λ m ws. arms_bring m ws c.in_ok-kind-in-Match.kind (expr_arms_view c.in-Match.arms)) _
+    (c.in_ok-expr-in-Match.ensures ∙ ap (λ (x : ExprNode). sought start (expr_brings n vs None (expr_view x)))
+    c.get-in-Match-2.ensures)
+    (e ∙ ap (λ (xs : List ExprArm). sought mid (arms_bring mid.kinds.names mid.vars c.in_ok-kind-in-Match.kind
+    (expr_arms_view xs))) c.as_slice-in-Match.ensures.items)
     (ap (expr_brings n vs c.args.asked) (expr_view-parts c.args.e.now)
     ∙ ap (form_brings n vs c.args.asked) (ap expr_form_view c.in-Match.is ∙ expr_form_view-Match term c.in-Match.arms)
     ∙ ap (λ k. expr_brings n vs None (expr_view term) ++ arms_bring n vs k (expr_arms_view c.in-Match.arms)) (sym kind)))
@@ -255,11 +292,13 @@ quantified-returns t c = λ p is.
     let added : mid ≡ sought start (parts n kind) = ap (λ table. record start { kinds = table }) c.in_ok-add.ensures in
     left_sought mid (seen c.bind.new.self) (seen c.expr.new.self) (seen c.leave.new.self) vs (bound_var x kind ∷ []) f refl
     c.in_ok-bind.ensures c.in_ok-expr.ensures
-    (c.leave.ensures ∙ ap (λ len. record { vars = take len c.expr.new.self.vars; kinds = (seen c.expr.new.self).kinds }) c.len-len.ensures)
+    (c.leave.ensures ∙ ap (λ len. record { vars = take len c.expr.new.self.vars; kinds = (seen c.expr.new.self).kinds })
+    c.len-len.ensures)
     ∙ ap (λ (s : Seen). sought s (f s.kinds.names vs)) added
     ∙ sym (sought_both start (parts n kind) (f n vs))
     ∙ ap (λ k. sought start (parts n k ++ f n (start.vars ++ bound_var x k ∷ []))) own
-    ∙ ap (λ (q : ParamTree). sought start (parts n (kind_of n (param_type q)) ++ f n (start.vars ++ quantified_var n q ∷ []))) (sym is)
+    ∙ ap (λ (q : ParamTree). sought start (parts n (kind_of n (param_type q)) ++ f n (start.vars ++ quantified_var n q ∷ [])))
+    (sym is)
 
 pub expr-returns-in_ok-add-in-SomeOf : goal.expr-returns-in_ok-add-in-SomeOf
 expr-returns-in_ok-add-in-SomeOf t c =
@@ -269,7 +308,8 @@ expr-returns-in_ok-add-in-SomeOf t c =
     let asked = c.args.asked in
     let kind = c.in_ok-kind-in-SomeOf.kind in
     let inside = c.in-SomeOf.inside in
-    let form : expr_form_view c.args.e.now.what ≡ ExprForm.some_of (expr_view inside) = ap expr_form_view c.in-SomeOf.is ∙ expr_form_view-SomeOf inside in
+    let form : expr_form_view c.args.e.now.what ≡ ExprForm.some_of (expr_view inside) = ap expr_form_view c.in-SomeOf.is
+    ∙ expr_form_view-SomeOf inside in
     let own : kind ≡ form_type n vs asked (ExprForm.some_of (expr_view inside)) =
     c.in_ok-kind-in-SomeOf.ensures
     ∙ ap (λ m. type_of (names_view m) vs asked (expr_view c.args.e.now)) c.names.ensures
@@ -279,7 +319,8 @@ expr-returns-in_ok-add-in-SomeOf t c =
     (λ e. both_as start mid (seen c.expr-in-SomeOf.new.self)
     (λ m ws. parts m kind) (λ m ws. expr_brings m ws (asked_inside asked) (expr_view inside)) _
     (ap (λ table. record start { kinds = table }) c.in_ok-add-in-SomeOf.ensures)
-    (e ∙ ap₂ (λ o (x : ExprNode). sought mid (expr_brings mid.kinds.names mid.vars o (expr_view x))) c.asked_inside.ensures c.get-in-SomeOf.ensures)
+    (e ∙ ap₂ (λ o (x : ExprNode). sought mid (expr_brings mid.kinds.names mid.vars o (expr_view x))) c.asked_inside.ensures
+    c.get-in-SomeOf.ensures)
     (ap (expr_brings n vs asked) (expr_view-parts c.args.e.now) ∙ ap (form_brings n vs asked) form
     ∙ ap (λ k. parts n k ++ expr_brings n vs (asked_inside asked) (expr_view inside)) (sym own)))
     c.expr-in-SomeOf.ensures
@@ -308,8 +349,10 @@ access-returns-in-Some t c =
     on_ok c.args-in-Some.result
     (λ e. both_as start mid (seen c.args-in-Some.new.self)
     (λ m ws. steps_bring m ws (way_view m way) steps) (λ m ws. args_bring m ws (args_of m (access_view m what)) args) _
-    (c.in_ok-keys.ensures ∙ ap (λ (xs : List AccessStep). sought start (steps_bring n vs (way_view n way) (steps_view xs))) c.as_slice.ensures.items)
-    (e ∙ ap (λ (xs : List ExprNode). sought mid (args_bring mid.kinds.names mid.vars (args_of mid.kinds.names (access_view mid.kinds.names what)) (exprs_view xs))) c.as_slice-in-Some.ensures.items)
+    (c.in_ok-keys.ensures ∙ ap (λ (xs : List AccessStep). sought start (steps_bring n vs (way_view n way) (steps_view xs)))
+    c.as_slice.ensures.items)
+    (e ∙ ap (λ (xs : List ExprNode). sought mid (args_bring mid.kinds.names mid.vars
+    (args_of mid.kinds.names (access_view mid.kinds.names what)) (exprs_view xs))) c.as_slice-in-Some.ensures.items)
     (ap (access_brings n vs) view
     ∙ ap₂ (λ w a. steps_bring n vs w steps ++ args_bring n vs (args_of n a) args) (sym begun) (sym named)))
     c.args-in-Some.ensures

@@ -24,7 +24,8 @@ abbrev pub invariant-word-loop-place : goal.invariant-word-loop-place
 invariant-word-loop-place l =
     Goes (seen l.fn.self) (seen l.self)
     (args_bring (names_view l.fn.self.kinds.names.now) l.fn.self.vars
-    (drop l.place (word_args (names_view l.fn.self.kinds.names.now) l.fn.self.vars l.word (exprs_view l.args))) (exprs_view (drop l.place l.args)))
+    (drop l.place (word_args (names_view l.fn.self.kinds.names.now) l.fn.self.vars l.word (exprs_view l.args)))
+    (exprs_view (drop l.place l.args)))
     (args_bring (names_view l.fn.self.kinds.names.now) l.fn.self.vars
     (word_args (names_view l.fn.self.kinds.names.now) l.fn.self.vars l.word (exprs_view l.args)) (exprs_view l.args))
 
@@ -32,12 +33,16 @@ abbrev pub invariant-args-loop-place : goal.invariant-args-loop-place
 invariant-args-loop-place l =
     Goes (seen l.fn.self) (seen l.self)
     (args_bring (names_view l.fn.self.kinds.names.now) l.fn.self.vars
-    (drop l.place (args_of (names_view l.fn.self.kinds.names.now) (access_view (names_view l.fn.self.kinds.names.now) l.what))) (exprs_view (drop l.place l.args)))
+    (drop l.place (args_of (names_view l.fn.self.kinds.names.now) (access_view (names_view l.fn.self.kinds.names.now) l.what)))
+    (exprs_view (drop l.place l.args)))
     (args_bring (names_view l.fn.self.kinds.names.now) l.fn.self.vars
-    (args_of (names_view l.fn.self.kinds.names.now) (access_view (names_view l.fn.self.kinds.names.now) l.what)) (exprs_view l.args))
+    (args_of (names_view l.fn.self.kinds.names.now) (access_view (names_view l.fn.self.kinds.names.now) l.what))
+    (exprs_view l.args))
 
 abbrev pub invariant-keys-loop-step : goal.invariant-keys-loop-step
 invariant-keys-loop-step l =
     Goes (seen l.fn.self) (seen l.self)
-    (steps_bring (names_view l.fn.self.kinds.names.now) l.fn.self.vars (way_view (names_view l.fn.self.kinds.names.now) l.way) (steps_view (drop l.step-index l.steps)))
-    (steps_bring (names_view l.fn.self.kinds.names.now) l.fn.self.vars (way_view (names_view l.fn.self.kinds.names.now) l.fn.way) (steps_view l.steps))
+    (steps_bring (names_view l.fn.self.kinds.names.now) l.fn.self.vars (way_view (names_view l.fn.self.kinds.names.now) l.way)
+    (steps_view (drop l.step-index l.steps)))
+    (steps_bring (names_view l.fn.self.kinds.names.now) l.fn.self.vars
+    (way_view (names_view l.fn.self.kinds.names.now) l.fn.way) (steps_view l.steps))

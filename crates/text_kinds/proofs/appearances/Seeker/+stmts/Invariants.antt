@@ -16,5 +16,6 @@ invariant-stmts-loop-stmt l =
 abbrev pub invariant-block_arms-loop-arm : goal.invariant-block_arms-loop-arm
 invariant-block_arms-loop-arm l =
     Goes (seen l.fn.self) (seen l.self)
-    (block_arms_bring (names_view l.fn.self.kinds.names.now) l.fn.self.vars l.kind l.own (block_arms_view (drop l.arm-index l.arms)))
+    (block_arms_bring (names_view l.fn.self.kinds.names.now) l.fn.self.vars l.kind l.own
+    (block_arms_view (drop l.arm-index l.arms)))
     (block_arms_bring (names_view l.fn.self.kinds.names.now) l.fn.self.vars l.kind l.own (block_arms_view l.arms))

@@ -21,10 +21,13 @@ loop-place-preserved c =
     ∙ ap (λ js. first_kind (drop p js))
     (c.case_of-case.ensures ∙ ap₂ (λ m x. pattern_kinds (names_view m) kind x) c.names-names.ensures c.as_slice.ensures.items) in
     record {
-      seen = ap (λ (xs : List Ident). with_bound c.bind.new.self.vars (idents_view (drop (p + 1) xs)) (drop (p + 1) ks)) (sym all)
+      seen = ap (λ (xs : List Ident). with_bound c.bind.new.self.vars (idents_view (drop (p + 1) xs)) (drop (p + 1) ks))
+          (sym all)
           ∙ ap (λ (s : Seen). with_bound s.vars (idents_view (drop (p + 1) items)) (drop (p + 1) ks)) c.in_ok-bind.ensures
-          ∙ ap₂ (λ k js. with_bound (old.vars ++ bound_var (ident_view var) k ∷ []) (idents_view (drop (p + 1) items)) js) field (sym (other_dropped ks p))
-          ∙ ap (λ (xs : List Ident). with_bound old.vars (idents_view xs) (drop p ks)) (sym (rest_is items p var c.loop-place-test.true c.var-item.is))
+          ∙ ap₂ (λ k js. with_bound (old.vars ++ bound_var (ident_view var) k ∷ []) (idents_view (drop (p + 1) items)) js) field
+          (sym (other_dropped ks p))
+          ∙ ap (λ (xs : List Ident). with_bound old.vars (idents_view xs) (drop p ks))
+          (sym (rest_is items p var c.loop-place-test.true c.var-item.is))
           ∙ ap (λ (xs : List Ident). with_bound old.vars (idents_view (drop p xs)) (drop p ks)) all
           ∙ c.loop-place.invariant.seen;
       same = ap (λ (s : Seen). s.kinds) c.in_ok-bind.ensures ∙ c.loop-place.invariant.same;

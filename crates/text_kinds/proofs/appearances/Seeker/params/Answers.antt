@@ -30,9 +30,12 @@ loop-param-preserved c =
     c.in_ok-kind.ensures.kind ∙ ap (λ m. kind_of m (type_view x.ty)) gains.names in
     let bound : new.vars ≡ now.vars ++ v ∷ [] =
     ap (λ (s : Seen). s.vars) c.in_ok-bind.ensures
-    ∙ ap₂ (λ (vs : List Var) k. vs ++ bound_var (ident_view x.name) k ∷ []) (ap (λ (s : Seen). s.vars) c.in_ok-kind.ensures.sought) kind in
-    gains_on start now new (params_bring n (params_view (drop i params))) (parts n (kind_of n (type_view x.ty))) (params_bring n rest) (params_bring n (params_view params))
-    (now.vars ++ param_vars n (params_view (drop i params))) (new.vars ++ param_vars n rest) (start.vars ++ param_vars n (params_view params)) gains
+    ∙ ap₂ (λ (vs : List Var) k. vs ++ bound_var (ident_view x.name) k ∷ [])
+    (ap (λ (s : Seen). s.vars) c.in_ok-kind.ensures.sought) kind in
+    gains_on start now new (params_bring n (params_view (drop i params))) (parts n (kind_of n (type_view x.ty)))
+    (params_bring n rest) (params_bring n (params_view params))
+    (now.vars ++ param_vars n (params_view (drop i params))) (new.vars ++ param_vars n rest)
+    (start.vars ++ param_vars n (params_view params)) gains
     (ap (λ (xs : List Param). params_bring n (params_view xs)) one)
     (ap (λ (xs : List Param). now.vars ++ param_vars n (params_view xs)) one
     ∙ sym (append_assoc now.vars (v ∷ []) (param_vars n rest))

@@ -22,12 +22,14 @@ returns c = λ none.
     let ty = optional type_view proc.result in
     let body = block_view proc.body in
     let kind : c.in_ok-kind.kind ≡ result_kind (option_map (kind_of here.kinds.names) ty) =
-    c.in_ok-kind.ensures.kind ∙ ap (λ (s : Seen). result_kind (option_map (kind_of s.kinds.names) ty)) (sym c.in_ok-kind.ensures.sought) in
+    c.in_ok-kind.ensures.kind ∙ ap (λ (s : Seen). result_kind (option_map (kind_of s.kinds.names) ty))
+    (sym c.in_ok-kind.ensures.sought) in
     on_ok c.block.result
     (λ e. declared_walk start mid here (seen c.block.new.self) (params_bring n params) (param_vars n params)
     (λ m. result_brings m ty) (λ m ws. block_brings m ws (result_kind (option_map (kind_of m) ty)) body)
     (c.in_ok-params.ensures none
-    ∙ ap (λ (ps : List Param). seeing (sought start (params_bring n (params_view ps))) (param_vars n (params_view ps))) c.as_slice.ensures.items)
+    ∙ ap (λ (ps : List Param). seeing (sought start (params_bring n (params_view ps))) (param_vars n (params_view ps)))
+    c.as_slice.ensures.items)
     c.in_ok-kind.ensures.sought
     (e ∙ ap (λ k. sought here (block_brings here.kinds.names here.vars k body)) kind))
     c.block.ensures

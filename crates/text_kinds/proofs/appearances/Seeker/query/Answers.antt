@@ -26,7 +26,8 @@ returns c = λ none.
     (λ e. declared_walk start mid here (seen c.expr.new.self) (params_bring n params) (param_vars n params)
     (λ m. parts m (kind_of m ty)) (λ m ws. expr_brings m ws (Some (kind_of m ty)) body)
     (c.in_ok-params.ensures none
-    ∙ ap (λ (ps : List Param). seeing (sought start (params_bring n (params_view ps))) (param_vars n (params_view ps))) c.as_slice.ensures.items)
+    ∙ ap (λ (ps : List Param). seeing (sought start (params_bring n (params_view ps))) (param_vars n (params_view ps)))
+    c.as_slice.ensures.items)
     c.in_ok-kind.ensures.sought
     (e ∙ ap (λ k. sought here (expr_brings here.kinds.names here.vars (Some k) body)) kind))
     c.expr.ensures

@@ -23,8 +23,10 @@ returns c =
     let vs = with_variable n start.vars x ty in
     let bound : here ≡ seeing mid vs =
     c.in_ok-bind.ensures
-    ∙ ap₂ (λ (ws : List Var) j. seeing mid (ws ++ bound_var x j ∷ [])) (ap (λ (s : Seen). s.vars) c.in_ok-kind.ensures.sought) c.in_ok-kind.ensures.kind in
+    ∙ ap₂ (λ (ws : List Var) j. seeing mid (ws ++ bound_var x j ∷ [])) (ap (λ (s : Seen). s.vars) c.in_ok-kind.ensures.sought)
+    c.in_ok-kind.ensures.kind in
     on_ok c.value.result
-    (λ e. bound_behind start mid here (seen c.value.new.self) (parts n k) vs (λ m ws. value_brings m ws k value) c.in_ok-kind.ensures.sought bound
+    (λ e. bound_behind start mid here (seen c.value.new.self) (parts n k) vs (λ m ws. value_brings m ws k value)
+    c.in_ok-kind.ensures.sought bound
     (e ∙ ap (λ j. sought here (value_brings here.kinds.names here.vars j value)) c.in_ok-kind.ensures.kind))
     c.value.ensures

@@ -22,11 +22,14 @@ add_crdt-returns-in_ok-add_written-in-MapUw t c =
     let crdt = c.args.crdt.now in
     let f : Names → List Kind = λ m. parts m (kind_of m (type_view c.in-MapUw.keys)) in
     let seen = crdt_view-parts crdt
-    ∙ ap (λ what. CrdtTree.node crdt.span what) (ap crdt_form_view c.in-MapUw.is ∙ crdt_form_view-MapUw c.in-MapUw.keys c.in-MapUw.held) in
+    ∙ ap (λ what. CrdtTree.node crdt.span what) (ap crdt_form_view c.in-MapUw.is ∙ crdt_form_view-MapUw c.in-MapUw.keys
+    c.in-MapUw.held) in
     on_ok c.add_crdt.result
-    (λ e. both_kinds start (kinds_view c.add_written-in-MapUw.new.self) (kinds_view c.add_crdt.new.self) f (λ m. crdt_kinds m (crdt_view c.in-MapUw.held))
+    (λ e. both_kinds start (kinds_view c.add_written-in-MapUw.new.self) (kinds_view c.add_crdt.new.self) f
+    (λ m. crdt_kinds m (crdt_view c.in-MapUw.held))
     c.in_ok-add_written-in-MapUw.ensures
-    (e ∙ ap (λ (held : CrdtNode). with_kinds (crdt_kinds (names_view c.add_written-in-MapUw.new.self.names.now) (crdt_view held)) (kinds_view c.add_written-in-MapUw.new.self)) c.get.ensures)
+    (e ∙ ap (λ (held : CrdtNode). with_kinds (crdt_kinds (names_view c.add_written-in-MapUw.new.self.names.now)
+    (crdt_view held)) (kinds_view c.add_written-in-MapUw.new.self)) c.get.ensures)
     ∙ ap (λ tree. with_kinds (crdt_kinds n tree) start) (sym seen))
     c.add_crdt.ensures
 
@@ -40,11 +43,14 @@ add_in_fields-loop-field-preserved t c =
     let x = c.field-item.result in
     let f : Names → List Kind = λ m. crdt_kinds m (crdt_view x.crdt) in
     record {
-      names = names_on (kinds_view start) (kinds_view old) (kinds_view c.add_crdt.new.self) f c.loop-field.invariant.names c.in_ok-add_crdt.ensures;
+      names = names_on (kinds_view start) (kinds_view old) (kinds_view c.add_crdt.new.self) f c.loop-field.invariant.names
+          c.in_ok-add_crdt.ensures;
       comes = kinds_on (kinds_view start) (kinds_view old) (kinds_view c.add_crdt.new.self)
-          (fields_kinds n (fields_view (drop i fields))) (fields_kinds n (fields_view (drop (i + 1) fields))) (fields_kinds n (fields_view fields)) f
+          (fields_kinds n (fields_view (drop i fields))) (fields_kinds n (fields_view (drop (i + 1) fields)))
+          (fields_kinds n (fields_view fields)) f
           c.loop-field.invariant.names c.loop-field.invariant.comes
-          (ap (λ (xs : List FieldNode). fields_kinds n (fields_view xs)) (rest_is fields i x c.loop-field-test.true c.field-item.is)
+          (ap (λ (xs : List FieldNode). fields_kinds n (fields_view xs))
+          (rest_is fields i x c.loop-field-test.true c.field-item.is)
           ∙ ap (λ tree. fields_kinds n (FieldTrees.more_fields tree (fields_view (drop (i + 1) fields)))) (field_view-parts x))
           c.in_ok-add_crdt.ensures;
     }
@@ -56,10 +62,13 @@ add_crdt-returns-in_ok-add_written-in-MapDw t c =
     let crdt = c.args.crdt.now in
     let f : Names → List Kind = λ m. parts m (kind_of m (type_view c.in-MapDw.keys)) in
     let seen = crdt_view-parts crdt
-    ∙ ap (λ what. CrdtTree.node crdt.span what) (ap crdt_form_view c.in-MapDw.is ∙ crdt_form_view-MapDw c.in-MapDw.keys c.in-MapDw.held) in
+    ∙ ap (λ what. CrdtTree.node crdt.span what) (ap crdt_form_view c.in-MapDw.is ∙ crdt_form_view-MapDw c.in-MapDw.keys
+    c.in-MapDw.held) in
     on_ok c.add_crdt-in-MapDw.result
-    (λ e. both_kinds start (kinds_view c.add_written-in-MapDw.new.self) (kinds_view c.add_crdt-in-MapDw.new.self) f (λ m. crdt_kinds m (crdt_view c.in-MapDw.held))
+    (λ e. both_kinds start (kinds_view c.add_written-in-MapDw.new.self) (kinds_view c.add_crdt-in-MapDw.new.self) f
+    (λ m. crdt_kinds m (crdt_view c.in-MapDw.held))
     c.in_ok-add_written-in-MapDw.ensures
-    (e ∙ ap (λ (held : CrdtNode). with_kinds (crdt_kinds (names_view c.add_written-in-MapDw.new.self.names.now) (crdt_view held)) (kinds_view c.add_written-in-MapDw.new.self)) c.get-in-MapDw.ensures)
+    (e ∙ ap (λ (held : CrdtNode). with_kinds (crdt_kinds (names_view c.add_written-in-MapDw.new.self.names.now)
+    (crdt_view held)) (kinds_view c.add_written-in-MapDw.new.self)) c.get-in-MapDw.ensures)
     ∙ ap (λ tree. with_kinds (crdt_kinds n tree) start) (sym seen))
     c.add_crdt-in-MapDw.ensures

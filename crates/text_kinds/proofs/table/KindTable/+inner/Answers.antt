@@ -41,7 +41,8 @@ add_base-returns-else-number-types t c =
     let n = names_view c.args.self.now.names.now in
     let is = number_inside c.args.base c.in-Some.number (sym c.declared_number.ensures ∙ c.in-Some.is) in
     subst (λ ks. Adds ks (kinds_view c.args.self.now) (kinds_view c.args.self.now))
-    (sym (ap (base_parts n (before n c.args.types)) is ∙ undeclared_before n c.args.types c.in-Some.number c.if-number-types.false))
+    (sym (ap (base_parts n (before n c.args.types)) is ∙ undeclared_before n c.args.types c.in-Some.number
+    c.if-number-types.false))
     (adds_none (kinds_view c.args.self.now))
 
 pub add_base-returns-in-None : goal.add_base-returns-in-None
@@ -70,7 +71,8 @@ add_declared-returns-in-None t c =
     let table = c.args.self.now in
     let n = names_view table.names.now in
     subst (λ ks. Adds ks (kinds_view table) (kinds_view table))
-    (sym (declared_none n c.args.number (sym c.type_at.ensures ∙ ap (option_map (λ item. type_item_view item.now)) c.in-None.is)))
+    (sym (declared_none n c.args.number (sym c.type_at.ensures ∙ ap (option_map (λ item. type_item_view item.now))
+    c.in-None.is)))
     (adds_none (kinds_view table))
 
 pub add_declared-returns-in-Id : goal.add_declared-returns-in-Id
@@ -104,7 +106,8 @@ add_declared-add_own-requires t c = λ type e.
     let cons = c.in-Datatype.cons.cons.now in
     let fields = flat_map (parts_before n number) (field_kinds n (map con_view cons)) in
     let adds : Adds fields (kinds_view table) (kinds_view c.add_cons.new.self) =
-    subst (λ (cs : List ConNode). Adds (flat_map (parts_before n number) (field_kinds n (map con_view cs))) (kinds_view table) (kinds_view c.add_cons.new.self))
+    subst (λ (cs : List ConNode). Adds (flat_map (parts_before n number) (field_kinds n (map con_view cs))) (kinds_view table)
+    (kinds_view c.add_cons.new.self))
     c.as_slice.ensures c.in_ok-add_cons-in-Datatype.ensures in
     let at : slice_get n.types number ≡ Some (type_item_view c.in-Some.item.now) =
     sym c.type_at.ensures ∙ ap (option_map (λ item. type_item_view item.now)) c.in-Some.is in
@@ -127,7 +130,8 @@ add_declared-returns-in_ok-add_cons-in-Datatype t c =
     let own = plain_kind (base.Declared number) in
     let fields = flat_map (parts_before n number) (field_kinds n (map con_view c.in-Datatype.cons.cons.now)) in
     let adds : Adds fields (kinds_view table) (kinds_view c.add_cons.new.self) =
-    subst (λ (cs : List ConNode). Adds (flat_map (parts_before n number) (field_kinds n (map con_view cs))) (kinds_view table) (kinds_view c.add_cons.new.self))
+    subst (λ (cs : List ConNode). Adds (flat_map (parts_before n number) (field_kinds n (map con_view cs))) (kinds_view table)
+    (kinds_view c.add_cons.new.self))
     c.as_slice.ensures c.in_ok-add_cons-in-Datatype.ensures in
     let at : slice_get n.types number ≡ Some (type_item_view c.in-Some.item.now) =
     sym c.type_at.ensures ∙ ap (option_map (λ item. type_item_view item.now)) c.in-Some.is in
@@ -148,11 +152,15 @@ add_fields-loop-field-preserved t c =
     let g : Names → Param → List Kind = λ m p. parts_before m types (kind_of m (type_view p.ty)) in
     let flat : (xs : List Param) → flat_map (parts_before n types) (param_kinds n (params_view xs)) ≡ flat_map (g n) xs =
     λ xs. flat_two (parts_before n types) (λ p. kind_of n (param_type p)) param_view xs in
-    subst (λ ks. Adds ks (kinds_view start) (kinds_view c.add_before.new.self)) (sym (flat (take (c.loop-field.field-index + 1) fields)))
-    (adds_next g fields c.loop-field.field-index c.field-item.result (kinds_view start) (kinds_view old) (kinds_view c.add_before.new.self)
+    subst (λ ks. Adds ks (kinds_view start) (kinds_view c.add_before.new.self))
+    (sym (flat (take (c.loop-field.field-index + 1) fields)))
+    (adds_next g fields c.loop-field.field-index c.field-item.result (kinds_view start) (kinds_view old)
+    (kinds_view c.add_before.new.self)
     c.loop-field-test.true c.field-item.is
-    (subst (λ ks. Adds ks (kinds_view start) (kinds_view old)) (flat (take c.loop-field.field-index fields)) c.loop-field.invariant)
-    (subst (λ (k : Kind). Adds (parts_before (names_view old.names.now) types k) (kinds_view old) (kinds_view c.add_before.new.self))
+    (subst (λ ks. Adds ks (kinds_view start) (kinds_view old)) (flat (take c.loop-field.field-index fields))
+    c.loop-field.invariant)
+    (subst (λ (k : Kind). Adds (parts_before (names_view old.names.now) types k) (kinds_view old)
+    (kinds_view c.add_before.new.self))
     c.in_ok-kind.ensures c.in_ok-add_before.ensures))
 
 pub add_cons-loop-con-preserved : goal.add_cons-loop-con-preserved
@@ -165,9 +173,12 @@ add_cons-loop-con-preserved t c =
     let g : Names → ConNode → List Kind = λ m con. flat_map (parts_before m types) (param_kinds m (params_view con.fields)) in
     let flat : (xs : List ConNode) → flat_map (parts_before n types) (field_kinds n (map con_view xs)) ≡ flat_map (g n) xs =
     λ xs. flat_flat (parts_before n types) (λ con. param_kinds n (con_fields con)) con_view xs in
-    subst (λ ks. Adds ks (kinds_view start) (kinds_view c.add_fields.new.self)) (sym (flat (take (c.loop-con.con-index + 1) cons)))
-    (adds_next g cons c.loop-con.con-index c.con-item.result (kinds_view start) (kinds_view old) (kinds_view c.add_fields.new.self)
+    subst (λ ks. Adds ks (kinds_view start) (kinds_view c.add_fields.new.self))
+    (sym (flat (take (c.loop-con.con-index + 1) cons)))
+    (adds_next g cons c.loop-con.con-index c.con-item.result (kinds_view start) (kinds_view old)
+    (kinds_view c.add_fields.new.self)
     c.loop-con-test.true c.con-item.is
     (subst (λ ks. Adds ks (kinds_view start) (kinds_view old)) (flat (take c.loop-con.con-index cons)) c.loop-con.invariant)
-    (subst (λ (fs : List Param). Adds (flat_map (parts_before (names_view old.names.now) types) (param_kinds (names_view old.names.now) (params_view fs))) (kinds_view old) (kinds_view c.add_fields.new.self))
+    (subst (λ (fs : List Param). Adds (flat_map (parts_before (names_view old.names.now) types)
+    (param_kinds (names_view old.names.now) (params_view fs))) (kinds_view old) (kinds_view c.add_fields.new.self))
     c.as_slice.ensures.items c.in_ok-add_fields.ensures))

@@ -25,10 +25,12 @@ decreases-add_base l = 5 * l.types
 
 abbrev pub invariant-add_fields-loop-field : goal.invariant-add_fields-loop-field
 invariant-add_fields-loop-field l =
-    Adds (flat_map (parts_before (names_view l.fn.self.names.now) l.types) (param_kinds (names_view l.fn.self.names.now) (params_view (take l.field-index l.fields))))
+    Adds (flat_map (parts_before (names_view l.fn.self.names.now) l.types)
+    (param_kinds (names_view l.fn.self.names.now) (params_view (take l.field-index l.fields))))
     (kinds_view l.fn.self) (kinds_view l.self)
 
 abbrev pub invariant-add_cons-loop-con : goal.invariant-add_cons-loop-con
 invariant-add_cons-loop-con l =
-    Adds (flat_map (parts_before (names_view l.fn.self.names.now) l.types) (field_kinds (names_view l.fn.self.names.now) (map con_view (take l.con-index l.cons))))
+    Adds (flat_map (parts_before (names_view l.fn.self.names.now) l.types)
+    (field_kinds (names_view l.fn.self.names.now) (map con_view (take l.con-index l.cons))))
     (kinds_view l.fn.self) (kinds_view l.self)

@@ -14,9 +14,11 @@ invariant_of-self-2 c =
     let n = names_view table.names.now in
     let kind = c.plain_kind-kind.ensures in
     record {
-      rows = subst (λ (kinds : List Kind). AreRows n kinds c.in_ok-cons.cons (slice_set table.own.items c.in-Some.place (Some c.next-numbers.result)) table.maybes.items)
+      rows = subst (λ (kinds : List Kind). AreRows n kinds c.in_ok-cons.cons
+          (slice_set table.own.items c.in-Some.place (Some c.next-numbers.result)) table.maybes.items)
           (sym (c.in_ok-push.ensures.ok ∙ ap (λ k. table.kinds ++ k ∷ []) kind))
-          (rows_own n table.kinds table.cons c.in_ok-cons.cons table.own.items table.maybes.items c.args.base c.in-Some.place c.next-numbers.result
+          (rows_own n table.kinds table.cons c.in_ok-cons.cons table.own.items table.maybes.items c.args.base c.in-Some.place
+          c.next-numbers.result
           table.rows (sym c.place_of.ensures ∙ c.in-Some.is) (omega (arith, c.if-place-len.false, c.len.ensures, table.own.ok.0))
           (ap (has_kind table.kinds) (sym kind) ∙ sym c.has.ensures ∙ c.if-has.false) c.requires c.next-numbers.ensures
           (c.in_ok-cons.ensures ∙ ap (λ k. length (flat_map (cons_of n) (table.kinds ++ k ∷ []))) kind));

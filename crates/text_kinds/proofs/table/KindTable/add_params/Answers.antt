@@ -21,9 +21,11 @@ loop-param-preserved c =
     let x = c.param-item.result in
     let f : Names → List Kind = λ m. parts m (kind_of m (type_view x.ty)) in
     record {
-      names = names_on (kinds_view start) (kinds_view old) (kinds_view c.add_written.new.self) f c.loop-param.invariant.names c.in_ok-add_written.ensures;
+      names = names_on (kinds_view start) (kinds_view old) (kinds_view c.add_written.new.self) f c.loop-param.invariant.names
+          c.in_ok-add_written.ensures;
       comes = kinds_on (kinds_view start) (kinds_view old) (kinds_view c.add_written.new.self)
-          (params_bring n (params_view (drop i params))) (params_bring n (params_view (drop (i + 1) params))) (params_bring n (params_view params)) f
+          (params_bring n (params_view (drop i params))) (params_bring n (params_view (drop (i + 1) params)))
+          (params_bring n (params_view params)) f
           c.loop-param.invariant.names c.loop-param.invariant.comes
           (ap (λ (xs : List Param). params_bring n (params_view xs)) (rest_is params i x c.loop-param-test.true c.param-item.is))
           c.in_ok-add_written.ensures;

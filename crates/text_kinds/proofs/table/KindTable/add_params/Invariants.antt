@@ -9,6 +9,7 @@ use Rattle.text_kinds.proofs.table.KindTable.add_params.Given as goal
 abbrev pub invariant-loop-param : goal.invariant-loop-param
 invariant-loop-param l = record {
   names : names_view l.self.names.now ≡ names_view l.fn.self.names.now;
-  comes : with_kinds (params_bring (names_view l.fn.self.names.now) (params_view (drop l.param-index l.params))) (kinds_view l.self)
+  comes : with_kinds (params_bring (names_view l.fn.self.names.now) (params_view (drop l.param-index l.params)))
+      (kinds_view l.self)
       ≡ with_kinds (params_bring (names_view l.fn.self.names.now) (params_view l.params)) (kinds_view l.fn.self);
 }

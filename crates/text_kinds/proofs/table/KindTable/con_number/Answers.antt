@@ -15,7 +15,8 @@ sum_below-requires c =
 pub returns-in-Some-con_in : goal.returns-in-Some-con_in
 returns-in-Some-con_in c =
     let table = c.args.self.now in
-    sym (con_there (names_view table.names.now) table.kinds c.args.kind c.args.name.now c.in-Some.numbers c.in-Some-con_in.place c.sum_below.result
+    sym (con_there (names_view table.names.now) table.kinds c.args.kind c.args.name.now c.in-Some.numbers c.in-Some-con_in.place
+    c.sum_below.result
     (sym c.numbers.ensures ∙ c.in-Some.is) (sym c.con_in.ensures ∙ c.in-Some-con_in.is) c.sum_below.ensures)
 
 pub returns-in-None-con_in : goal.returns-in-None-con_in

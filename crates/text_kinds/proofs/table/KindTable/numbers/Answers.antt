@@ -9,7 +9,8 @@ returns-in-Some c =
     let kind = c.args.kind in
     let table = c.args.self.now in
     c.found_in.ensures
-    ∙ ap₂ (λ own maybes. found_in own maybes c.in-Some.place kind.maybes) c.as_slice.ensures.value c.as_slice-in-Some.ensures.value
+    ∙ ap₂ (λ own maybes. found_in own maybes c.in-Some.place kind.maybes) c.as_slice.ensures.value
+    c.as_slice-in-Some.ensures.value
     ∙ table.rows.found kind.base kind.maybes c.in-Some.place (sym c.place_of.ensures ∙ c.in-Some.is)
 
 pub returns-in-None : goal.returns-in-None
