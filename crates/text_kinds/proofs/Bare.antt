@@ -1,5 +1,5 @@
 -- Which variables have values tells nothing of types.
-use Rattle.std.proofs.Common.{◌≡◌, ℕ, zero, suc, Bool, true, false, ◌&&◌, cond, List, [], ◌∷◌, ◌++◌, length, map, take, Option, Some, None, refl, sym, ap, ◌∙◌}
+use Rattle.std.proofs.Common.{◌≡◌, Bool, true, false, cond, List, [], ◌∷◌, ◌++◌, length, map, take, Option, Some, None, refl, sym, ap, ◌∙◌}
 use Rattle.std.specs.Option.{option_map, option_map_or, unwrap_or}
 use Rattle.type_terms.specs.declared.cases.Case as code_case
 use Rattle.type_terms.specs.Views.{fields_of}
@@ -7,9 +7,9 @@ use Rattle.std.proofs.lemmas.List.{append-nil, append_assoc, map-append, take-ma
 use Rattle.rp_grammar.specs.declared.operator.CompareOp.{CompareOp}
 use Rattle.rp_grammar.specs.declared.operator.CallWord.{CallWord}
 use Rattle.rp_grammar.specs.declared.operator.CallWord.TheVariants as called
-use Rattle.rp_grammar.specs.Trees.{Ident, ParamTree, ExprTree, ExprForm, ExprTrees, AccessTree, StepTree, StepTrees, StmtForm, StmtTree, StmtTrees}
+use Rattle.rp_grammar.specs.Trees.{Ident, ExprTree, ExprForm, ExprTrees, AccessTree, StepTrees, StmtForm, StmtTree, StmtTrees}
 use Rattle.type_rules.specs.declared.kind.Kind.{Kind}
-use Rattle.type_rules.specs.Names.{Name, Names, entry_named, same_name, text_of}
+use Rattle.type_rules.specs.Names.{Name, Names, same_name, text_of}
 use Rattle.type_rules.specs.Kinds.{is_open, kind_of, maybe_of}
 use Rattle.type_rules.specs.Accesses.{Var, access_kind, access_of, args_of, find_var, of_name}
 use Rattle.type_rules.specs.Typing.{asked_inside, form_type, type_of}
@@ -18,7 +18,6 @@ use Rattle.type_rules.specs.Flow.{both, give, with_value}
 use Rattle.type_rules.specs.ExprSites.{before_kind, first_type, is_equality, left_asked, left_side, left_want, ordered_side, right_side, right_want, way_from, word_args}
 use Rattle.type_rules.specs.StmtSites.{var_kind}
 use Rattle.text_kinds.specs.means.Brought.{stmts_behind, vars_behind}
-use Rattle.type_rules.specs.Queries.{param_vars}
 
 -- as one that has a value
 abbrev pub bare : Var → Var

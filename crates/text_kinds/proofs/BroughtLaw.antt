@@ -1,31 +1,31 @@
 -- What the places of a text bring is what its expressions, statements and declarations bring.
-use Rattle.std.proofs.Common.{◌≡◌, ℕ, ◌+◌, Bool, true, false, List, [], ◌∷◌, ◌++◌, length, map, take, codes, Option, Some, None, refl, sym, ap, ◌∙◌}
+use Rattle.std.proofs.Common.{◌≡◌, ℕ, ◌+◌, Bool, true, false, List, [], ◌∷◌, ◌++◌, length, map, codes, Option, Some, None, refl, sym, ap, ◌∙◌}
 use Rattle.std.specs.Prelude.{flat_map}
 use Rattle.std.specs.Option.{option_map}
 use Rattle.std.proofs.lemmas.Grind.{flat_map-append}
 use Rattle.std.proofs.lemmas.List.{append-nil, append_assoc}
 use Rattle.rp_span.specs.declared.Span.{Span}
-use Rattle.rp_grammar.specs.Trees.{Ident, TypeTree, ParamTree, PatternTree, ExprTree, ExprForm, ExprTrees, ExprArmTree, ExprArmTrees, AccessTree, StepTree, StepTrees, ArgTrees, BlockTree, StmtTree, StmtForm, StmtTrees, ElseTree, BlockArmTree, BlockArmTrees, QueryTree, ProcTree, DeclForm, DeclTree}
+use Rattle.rp_grammar.specs.Trees.{Ident, TypeTree, ParamTree, ExprTree, ExprForm, ExprTrees, ExprArmTree, ExprArmTrees, AccessTree, StepTree, StepTrees, ArgTrees, BlockTree, StmtTree, StmtForm, StmtTrees, ElseTree, BlockArmTree, BlockArmTrees, QueryTree, ProcTree, DeclForm, DeclTree}
 use Rattle.type_rules.specs.declared.kind.Kind.{Kind}
 use Rattle.type_rules.specs.declared.role.Role.{Role}
 use Rattle.type_rules.specs.declared.role.Role.TheVariants as role
 use Rattle.type_rules.specs.Names.{Name, Names, param_name, param_type, text_of, types_in}
-use Rattle.type_rules.specs.Kinds.{bool_kind, kind_of, param_kinds}
+use Rattle.type_rules.specs.Kinds.{bool_kind, kind_of}
 use Rattle.type_rules.specs.Paths.{Way, key_kind, stepped}
 use Rattle.type_rules.specs.Accesses.{Var, access_of, args_of, find_var}
-use Rattle.type_rules.specs.Typing.{asked_inside, form_type, type_of}
+use Rattle.type_rules.specs.Typing.{form_type, type_of}
 use Rattle.type_rules.specs.Sites.{Scope, Site, Want}
 use Rattle.type_rules.specs.Starts.{brace_of, word_at}
-use Rattle.type_rules.specs.Matches.{bound_sites, bound_var, first_kind, other_kinds, pattern_con, pattern_kinds, pattern_name, pattern_vars}
+use Rattle.type_rules.specs.Matches.{bound_sites, bound_var, first_kind, other_kinds, pattern_kinds, pattern_name, pattern_vars}
 use Rattle.type_rules.specs.ExprSites.{access_sites, arg_sites, argument, arm_names, arm_sites, asks, bool_operand, bool_whole, expr_sites, form_sites, given_sites, held, int_operand, key_sites, left_want, matched, operand_sites, pattern_sites, quantified_sites, quantified_var, right_want, step_sites, way_from, with_pattern, with_var, word_args}
 use Rattle.type_rules.specs.StmtSites as stmt_sites
 use Rattle.type_rules.specs.StmtSites.{Frame, before_stmts, is_last, is_there, result_kind, scope_in, value_for, value_sites, var_kind}
-use Rattle.type_rules.specs.Flow.{Sight, after, after_arm, after_arms, after_block, after_else, after_stmts, has_value, in_pattern, with_declared}
+use Rattle.type_rules.specs.Flow.{Sight, after, after_arm, after_arms, after_block, after_else, after_stmts, in_pattern, with_declared}
 use Rattle.type_rules.specs.Queries.{param_var, param_vars}
 use Rattle.type_rules.specs.DeclSites.{declares_all, frame_for, named_all, param_sites, result_sites, scope_for, sight_for, written_all}
-use Rattle.desugaring.specs.Appearances.{datatypes_of, decl_kinds, kinds_from, parts, site_kinds, some_parts}
-use Rattle.text_kinds.specs.means.Brought.{access_brings, args_bring, arms_bring, behind_pattern, block_arm_brings, block_arms_bring, block_brings, decl_brings, decls_bring, else_brings, expr_brings, form_brings, given_brings, key_brings, operands_bring, params_bring, proc_brings, query_brings, result_brings, steps_bring, stmt_brings, stmts_behind, stmts_bring, type_count, value_brings, vars_behind, with_variable}
-use Rattle.text_kinds.proofs.Bare.{args_bare, bare, bares, bares_both, bares_bound, bares_dead, bares_given, bares_left, bares_more, behind_more, bound_more, form_bare, left_bare, one_more, right_bare, type_bare, var_bare, way_bare, word_bare}
+use Rattle.desugaring.specs.Appearances.{decl_kinds, kinds_from, parts, site_kinds}
+use Rattle.text_kinds.specs.means.Brought.{access_brings, args_bring, arms_bring, block_arms_bring, block_brings, decl_brings, decls_bring, else_brings, expr_brings, form_brings, given_brings, key_brings, operands_bring, params_bring, proc_brings, result_brings, steps_bring, stmt_brings, stmts_behind, stmts_bring, type_count, value_brings, vars_behind, with_variable}
+use Rattle.text_kinds.proofs.Bare.{args_bare, bares, bares_both, bares_bound, bares_dead, bares_given, bares_left, bares_more, behind_more, bound_more, form_bare, left_bare, one_more, right_bare, type_bare, var_bare, way_bare, word_bare}
 
 abbrev Brings : Names → List Site → List Kind → Type 0
 Brings n ss ks = flat_map (site_kinds n) ss ≡ ks

@@ -1,11 +1,11 @@
 -- Walks that bring datatypes one after the other.
-use Rattle.std.proofs.Common.{◌≡◌, ℕ, zero, suc, ◌+◌, ◌<◌, List, [], ◌∷◌, ◌++◌, length, get_or, drop, map, take, Some, refl, sym, ap, ap₂, ◌∙◌, arith}
+use Rattle.std.proofs.Common.{◌≡◌, ℕ, zero, suc, ◌+◌, ◌<◌, List, [], ◌∷◌, ◌++◌, length, get_or, drop, take, refl, sym, ap, ap₂, ◌∙◌, arith}
 use Rattle.std.proofs.lemmas.List.{append_assoc, drop_more}
 use Rattle.type_rules.specs.declared.kind.Kind.{Kind}
 use Rattle.type_rules.specs.Names.{Names}
 use Rattle.type_rules.specs.Accesses.{Var}
-use Rattle.type_rules.specs.Matches.{first_kind, other_kinds}
-use Rattle.text_kinds.specs.Numbered.{Numbered, numbered, with_each, with_kinds}
+use Rattle.type_rules.specs.Matches.{other_kinds}
+use Rattle.text_kinds.specs.Numbered.{Numbered, numbered, with_kinds}
 use Rattle.text_kinds.specs.means.Brought.{Seen, seeing, sought}
 use Rattle.text_kinds.specs.means.Walked.{Gains, Goes}
 use Rattle.text_kinds.proofs.KindsAdded.{each_both}

@@ -1,11 +1,10 @@
 -- Which datatypes expressions, statements and declarations bring, told by the names and types of variables alone.
-use Rattle.std.specs.Prelude.{◌≡◌, ℕ, ◌+◌, List, [], ◌∷◌, ◌++◌, flat_map, map, Option, Some, None}
+use Rattle.std.specs.Prelude.{ℕ, ◌+◌, List, [], ◌∷◌, ◌++◌, flat_map, Option, Some, None}
 use Rattle.std.specs.Option.{option_map}
-use Rattle.rp_span.specs.declared.Span.{Span}
 use Rattle.rp_grammar.specs.Trees.{Ident, TypeTree, ParamTree, PatternTree, ExprTree, ExprForm, ExprTrees, ExprArmTree, ExprArmTrees, AccessTree, StepTree, StepTrees, ArgTrees, BlockTree, StmtTree, StmtForm, StmtTrees, ElseTree, BlockArmTree, BlockArmTrees, QueryTree, ProcTree, DeclForm, DeclTree}
 use Rattle.type_rules.specs.declared.kind.Kind.{Kind}
 use Rattle.type_rules.specs.declared.kind.Base.TheVariants as base
-use Rattle.type_rules.specs.Names.{Names, text_of, param_name, param_type}
+use Rattle.type_rules.specs.Names.{Names, text_of, param_type}
 use Rattle.type_rules.specs.Kinds.{bool_kind, int_kind, kind_of, param_kinds, plain_kind}
 use Rattle.type_rules.specs.Paths.{Way, key_kind, stepped}
 use Rattle.type_rules.specs.Accesses.{Var, access_of, args_of, find_var}

@@ -1,5 +1,5 @@
 -- How far a walk has come.
-use Rattle.std.specs.Prelude.{◌≡◌, List, ◌++◌}
+use Rattle.std.specs.Prelude.{◌≡◌, List}
 use Rattle.type_rules.specs.declared.kind.Kind.{Kind}
 use Rattle.type_rules.specs.Accesses.{Var}
 use Rattle.text_kinds.specs.Numbered.{with_kinds}

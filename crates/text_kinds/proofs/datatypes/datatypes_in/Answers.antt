@@ -11,7 +11,6 @@ use Rattle.text_kinds.specs.Numbered.{Numbered, numbered, with_kinds}
 use Rattle.text_kinds.specs.Seen.{kinds_view}
 use Rattle.text_kinds.specs.means.Brought as means
 use Rattle.text_kinds.specs.means.Brought.{Seen, decl_brings, decls_bring}
-use Rattle.text_kinds.specs.means.Walked.{seen}
 use Rattle.text_kinds.proofs.BroughtLaw.{from_law}
 use Rattle.text_kinds.proofs.EachOnce.{each_first}
 use Rattle.text_kinds.proofs.Walks.{kinds_on, rest_is}

@@ -1,10 +1,10 @@
-use Rattle.std.proofs.Common.{◌≡◌, ◌+◌, ◌++◌, List, [], ◌∷◌, Option, None, Some, drop, length, refl, take, ap, ap₂, sym, ◌∙◌}
+use Rattle.std.proofs.Common.{◌≡◌, ◌+◌, ◌++◌, List, [], ◌∷◌, None, Some, drop, refl, take, ap, ap₂, sym, ◌∙◌}
 use Rattle.rp_ast.specs.declared.expr.AccessStep.{AccessStep}
 use Rattle.rp_ast.specs.declared.expr.AccessStep.TheViews.{out-AccessNode}
 use Rattle.rp_ast.specs.View as tree
 use Rattle.rp_ast.specs.View.{args_view, expr_form_view, ident_view, param_view, pattern_view, step_view, steps_view, type_view}
 use Rattle.rp_ast.proofs.ExprViews.{expr_arm_view-parts, expr_form_view-Compare, expr_form_view-Exists, expr_form_view-Forall, expr_form_view-Implies, expr_form_view-Match, expr_form_view-Minus, expr_form_view-Plus, expr_form_view-SomeOf, access_view-parts, expr_view-parts}
-use Rattle.rp_grammar.specs.Trees.{AccessTree, ExprArmTree, ExprForm, ParamTree}
+use Rattle.rp_grammar.specs.Trees.{AccessTree, ExprForm, ParamTree}
 use Rattle.type_rules.specs.Kinds.{int_kind, kind_of}
 use Rattle.type_rules.specs.Accesses.{access_of, args_of, find_var}
 use Rattle.type_rules.specs.Matches.{bound_var, first_kind, pattern_kinds, pattern_name, pattern_vars}

@@ -1,5 +1,4 @@
-use Rattle.std.proofs.Common.{◌≡◌, ◌+◌, ◌++◌, List, [], ◌∷◌, Option, None, Some, drop, length, refl, take, ap, ap₂, append-nil, sym, ◌∙◌}
-use Rattle.rp_ast.specs.declared.expr.ExprNode.{ExprNode}
+use Rattle.std.proofs.Common.{◌≡◌, ◌+◌, ◌++◌, List, [], ◌∷◌, None, Some, drop, refl, take, ap, append-nil, sym, ◌∙◌}
 use Rattle.rp_ast.specs.declared.stmt.BlockArm.{BlockArm}
 use Rattle.rp_ast.specs.declared.stmt.StmtNode.{StmtNode}
 use Rattle.rp_ast.specs.declared.stmt.ElseNode.TheViews.{out-Block, out-BlockArm}

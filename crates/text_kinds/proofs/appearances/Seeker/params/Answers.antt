@@ -6,7 +6,6 @@ use Rattle.type_rules.specs.Matches.{bound_var}
 use Rattle.type_rules.specs.Queries.{param_var, param_vars}
 use Rattle.type_rules.specs.Accesses.{Var}
 use Rattle.desugaring.specs.Appearances.{parts}
-use Rattle.text_names.specs.Declarations.{names_view}
 use Rattle.text_kinds.specs.Numbered.{with_kinds}
 use Rattle.text_kinds.specs.means.Brought.{Seen, params_bring}
 use Rattle.text_kinds.specs.means.Walked.{seen}

@@ -1,4 +1,4 @@
-use Rattle.std.proofs.Common.{◌≡◌, ◌++◌, List, Some, sym, ap, ◌∙◌}
+use Rattle.std.proofs.Common.{◌≡◌, List, Some, sym, ap, ◌∙◌}
 use Rattle.rp_ast.specs.declared.ty.Param.{Param}
 use Rattle.rp_ast.specs.View.{expr_view, params_view, type_view}
 use Rattle.type_rules.specs.Kinds.{kind_of}

@@ -1,4 +1,4 @@
-use Rattle.std.proofs.Common.{◌≡◌, ◌+◌, ◌++◌, List, drop, ap, sym, ◌∙◌}
+use Rattle.std.proofs.Common.{◌+◌, List, drop, ap, sym, ◌∙◌}
 use Rattle.rp_grammar.specs.Trees.{CrdtTree, FieldTrees}
 use Rattle.rp_ast.specs.declared.crdt.CrdtNode.{CrdtNode}
 use Rattle.rp_ast.specs.declared.crdt.FieldNode.{FieldNode}

@@ -9,13 +9,12 @@ use Rattle.text_names.specs.Views.{sort_view}
 use Rattle.text_kinds.specs.means.Rows.{are_there, declared_number}
 use Rattle.text_kinds.proofs.KindsAdded.{flat_flat, flat_two, has_last, kind_self, there_both, there_push}
 use Rattle.text_kinds.proofs.PartsBefore.{declared_is}
-use Rattle.std.proofs.Common.{true, ◌≡◌, List, Option, [], ◌∷◌, ◌++◌, Some, refl, ap, sym, subst, ◌∙◌, ◌+◌, map, take}
+use Rattle.std.proofs.Common.{true, ◌≡◌, List, [], ◌∷◌, ◌++◌, Some, refl, ap, sym, subst, ◌∙◌, ◌+◌, map, take}
 use Rattle.std.specs.Prelude.{OnOk, flat_map, slice_get}
 use Rattle.std.specs.Option.{option_map}
 use Rattle.rp_ast.specs.View.{con_view, type_view}
 use Rattle.type_rules.specs.declared.kind.Kind.{Kind}
 use Rattle.type_rules.specs.declared.kind.Base.TheVariants as base
-use Rattle.type_rules.specs.Names.{TypeEntry, TypeSort}
 use Rattle.type_rules.specs.Kinds.{kind_of, plain_kind}
 use Rattle.desugaring.specs.Appearances.{base_parts, field_kinds, maybes_of, sort_parts}
 use Rattle.text_names.specs.Declarations.{names_view}

@@ -1,4 +1,4 @@
-use Rattle.std.proofs.Common.{List, [], ◌∷◌, ◌++◌, ap, sym, subst, ◌∙◌}
+use Rattle.std.proofs.Common.{List, ap, sym, subst, ◌∙◌}
 use Rattle.type_rules.specs.declared.kind.Kind.{Kind}
 use Rattle.type_tables.proofs.Seen.{not_failed}
 use Rattle.text_names.specs.Declarations.{names_view}

@@ -1,4 +1,4 @@
-use Rattle.std.proofs.Common.{◌+◌, ◌<◌, Some, refl, ap, subst, sym, ◌∙◌}
+use Rattle.std.proofs.Common.{◌+◌, ◌<◌, refl, subst, sym, ◌∙◌}
 use Rattle.text_names.specs.Declarations.{names_view}
 use Rattle.text_kinds.proofs.NumbersFound.{con_absent, con_nowhere, con_there, con_within}
 use Rattle.text_kinds.proofs.table.KindTable.con_number.Goals as goal

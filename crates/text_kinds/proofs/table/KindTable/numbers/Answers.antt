@@ -1,4 +1,4 @@
-use Rattle.std.proofs.Common.{ap, ap₂, sym, ◌∙◌}
+use Rattle.std.proofs.Common.{ap₂, sym, ◌∙◌}
 use Rattle.text_names.specs.Declarations.{names_view}
 use Rattle.text_kinds.specs.means.Rows.{found_in}
 use Rattle.text_kinds.proofs.NumbersFound.{numbers_none}
