@@ -1,12 +1,16 @@
 -- Walks that bring datatypes one after the other.
-use Rattle.std.proofs.Common.{◌≡◌, ℕ, zero, suc, ◌+◌, ◌<◌, List, [], ◌∷◌, ◌++◌, length, get_or, drop, take, refl, sym, ap, ap₂, ◌∙◌, arith}
+use Rattle.std.proofs.Common.{◌≡◌, ℕ, zero, suc, ◌+◌, ◌<◌, List, [], ◌∷◌, ◌++◌, length, get_or, drop, take, Option, refl, sym, ap, ap₂, ◌∙◌, arith}
 use Rattle.std.proofs.lemmas.List.{append_assoc, drop_more}
+use Rattle.rp_ast.specs.declared.expr.ExprNode.{ExprNode}
+use Rattle.rp_ast.specs.View.{expr_form_view, expr_view}
+use Rattle.rp_ast.proofs.ExprViews.{expr_view-parts}
+use Rattle.rp_grammar.specs.Trees.{ExprForm}
 use Rattle.type_rules.specs.declared.kind.Kind.{Kind}
 use Rattle.type_rules.specs.Names.{Names}
 use Rattle.type_rules.specs.Accesses.{Var}
 use Rattle.type_rules.specs.Matches.{other_kinds}
 use Rattle.text_kinds.specs.Numbered.{Numbered, numbered, with_kinds}
-use Rattle.text_kinds.specs.means.Brought.{Seen, seeing, sought}
+use Rattle.text_kinds.specs.means.Brought.{Seen, expr_brings, form_brings, seeing, sought}
 use Rattle.text_kinds.specs.means.Walked.{Gains, Goes}
 use Rattle.text_kinds.proofs.KindsAdded.{each_both}
 
@@ -146,3 +150,8 @@ declared_walk a b c d ks vs f g begun one other =
     (both_sought b c d (λ m ws. f m) g one other ∙ ap (λ (s : Seen). sought s (f s.kinds.names ++ g s.kinds.names s.vars)) begun)
     ∙ sym (kinds_both ks (f a.kinds.names ++ g a.kinds.names vs) a.kinds)
     ∙ ap (λ js. with_kinds js a.kinds) (sym (append_assoc ks (f a.kinds.names) (g a.kinds.names vs)))
+
+-- an expression by its form
+pub form_seen : (n : Names) (vs : List Var) (asked : Option Kind) (e : ExprNode) (form : ExprForm)
+    → expr_form_view e.what ≡ form → expr_brings n vs asked (expr_view e) ≡ form_brings n vs asked form
+form_seen n vs asked e form is = ap (expr_brings n vs asked) (expr_view-parts e) ∙ ap (form_brings n vs asked) is

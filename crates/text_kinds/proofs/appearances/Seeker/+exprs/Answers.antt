@@ -16,7 +16,7 @@ use Rattle.type_terms.specs.Views.{access_view, way_view}
 use Rattle.text_kinds.specs.Seen.{kinds_view}
 use Rattle.text_kinds.specs.means.Brought.{Seen, access_brings, args_bring, behind_pattern, form_brings, key_brings, steps_bring}
 use Rattle.text_kinds.proofs.Bare.{bound_more}
-use Rattle.text_kinds.proofs.Walks.{both_as, left_sought, other_dropped, sought_both}
+use Rattle.text_kinds.proofs.Walks.{both_as, form_seen, goes_on, left_sought, other_dropped, rest_is, sought_both}
 use Rattle.rp_ast.specs.declared.expr.ExprNode.{ExprNode}
 use Rattle.rp_ast.specs.declared.expr.ExprArm.{ExprArm}
 use Rattle.rp_ast.specs.View.{expr_arm_view, expr_arms_view, expr_view, exprs_view}
@@ -28,7 +28,6 @@ use Rattle.text_names.specs.Declarations.{names_view}
 use Rattle.text_names.proofs.Placed.{on_ok}
 use Rattle.text_kinds.specs.means.Brought.{arms_bring, expr_brings, arm_brings, operands_bring, sought}
 use Rattle.text_kinds.specs.means.Walked.{seen}
-use Rattle.text_kinds.proofs.Walks.{goes_on, rest_is}
 use Rattle.text_kinds.proofs.appearances.Seeker.+exprs.Goals as goal
 
 pub operands-loop-operand-preserved : goal.operands-loop-operand-preserved
@@ -113,8 +112,7 @@ expr-returns-in_ok-expr-in-Implies t c =
     (expr_brings start.kinds.names start.vars (Some bool_kind) (expr_view x))) c.get.ensures)
     (e ∙ ap (λ (x : ExprNode). sought mid (expr_brings mid.kinds.names mid.vars (Some bool_kind) (expr_view x)))
     c.get-in-Implies.ensures)
-    (ap (expr_brings start.kinds.names start.vars c.args.asked) (expr_view-parts c.args.e.now)
-    ∙ ap (form_brings start.kinds.names start.vars c.args.asked)
+    (form_seen start.kinds.names start.vars c.args.asked c.args.e.now _
     (ap expr_form_view c.in-Implies.is ∙ expr_form_view-Implies l r)))
     c.expr-in-Implies.ensures
 
@@ -131,8 +129,8 @@ expr-returns-in_ok-expr-in-Plus t c =
     (expr_brings start.kinds.names start.vars (Some int_kind) (expr_view x))) c.get-in-Plus.ensures)
     (e ∙ ap (λ (x : ExprNode). sought mid (expr_brings mid.kinds.names mid.vars (Some int_kind) (expr_view x)))
     c.get-in-Plus-2.ensures)
-    (ap (expr_brings start.kinds.names start.vars c.args.asked) (expr_view-parts c.args.e.now)
-    ∙ ap (form_brings start.kinds.names start.vars c.args.asked) (ap expr_form_view c.in-Plus.is ∙ expr_form_view-Plus l r)))
+    (form_seen start.kinds.names start.vars c.args.asked c.args.e.now _
+    (ap expr_form_view c.in-Plus.is ∙ expr_form_view-Plus l r)))
     c.expr-in-Plus-2.ensures
 
 pub expr-returns-in_ok-expr-in-Minus : goal.expr-returns-in_ok-expr-in-Minus
@@ -148,8 +146,8 @@ expr-returns-in_ok-expr-in-Minus t c =
     (expr_brings start.kinds.names start.vars (Some int_kind) (expr_view x))) c.get-in-Minus.ensures)
     (e ∙ ap (λ (x : ExprNode). sought mid (expr_brings mid.kinds.names mid.vars (Some int_kind) (expr_view x)))
     c.get-in-Minus-2.ensures)
-    (ap (expr_brings start.kinds.names start.vars c.args.asked) (expr_view-parts c.args.e.now)
-    ∙ ap (form_brings start.kinds.names start.vars c.args.asked) (ap expr_form_view c.in-Minus.is ∙ expr_form_view-Minus l r)))
+    (form_seen start.kinds.names start.vars c.args.asked c.args.e.now _
+    (ap expr_form_view c.in-Minus.is ∙ expr_form_view-Minus l r)))
     c.expr-in-Minus-2.ensures
 
 pub word-loop-place-preserved : goal.word-loop-place-preserved
@@ -185,8 +183,8 @@ expr-returns-in-Forall t c =
     ∙ ap (λ (x : ExprNode). sought start (parts n (kind_of n (param_type p))
     ++ expr_brings n (start.vars ++ quantified_var n p ∷ []) (Some bool_kind) (expr_view x)))
     c.get-in-Forall-2.ensures
-    ∙ ap (sought start) (sym (ap (expr_brings n start.vars c.args.asked) (expr_view-parts c.args.e.now)
-    ∙ ap (form_brings n start.vars c.args.asked) (ap expr_form_view c.in-Forall.is ∙ expr_form_view-Forall c.in-Forall.param
+    ∙ ap (sought start) (sym (form_seen n start.vars c.args.asked c.args.e.now _
+    (ap expr_form_view c.in-Forall.is ∙ expr_form_view-Forall c.in-Forall.param
     c.in-Forall.body))))
     (c.quantified.ensures p (ap param_view (sym c.get-in-Forall.ensures)))
 
@@ -200,8 +198,8 @@ expr-returns-in-Exists t c =
     ∙ ap (λ (x : ExprNode). sought start (parts n (kind_of n (param_type p))
     ++ expr_brings n (start.vars ++ quantified_var n p ∷ []) (Some bool_kind) (expr_view x)))
     c.get-in-Exists-2.ensures
-    ∙ ap (sought start) (sym (ap (expr_brings n start.vars c.args.asked) (expr_view-parts c.args.e.now)
-    ∙ ap (form_brings n start.vars c.args.asked) (ap expr_form_view c.in-Exists.is ∙ expr_form_view-Exists c.in-Exists.param
+    ∙ ap (sought start) (sym (form_seen n start.vars c.args.asked c.args.e.now _
+    (ap expr_form_view c.in-Exists.is ∙ expr_form_view-Exists c.in-Exists.param
     c.in-Exists.body))))
     (c.quantified-in-Exists.ensures p (ap param_view (sym c.get-in-Exists.ensures)))
 
@@ -230,8 +228,8 @@ expr-returns-in_ok-expr-in-Compare t c =
     (expr_brings n vs c.in_ok-first-in-Compare.first (expr_view x))) c.get-in-Compare-5.ensures)
     (e ∙ ap (λ (x : ExprNode). sought mid (expr_brings mid.kinds.names mid.vars c.in_ok-second-in-Compare.second (expr_view x)))
     c.get-in-Compare-6.ensures)
-    (ap (expr_brings n vs c.args.asked) (expr_view-parts c.args.e.now)
-    ∙ ap (form_brings n vs c.args.asked) (ap expr_form_view c.in-Compare.is ∙ expr_form_view-Compare op l r)
+    (form_seen n vs c.args.asked c.args.e.now _
+    (ap expr_form_view c.in-Compare.is ∙ expr_form_view-Compare op l r)
     ∙ sym (ap₂ (λ a b. expr_brings n vs a (expr_view l) ++ expr_brings n vs b (expr_view r)) first second)))
     c.expr-in-Compare-2.ensures
 
@@ -273,8 +271,8 @@ expr-returns-in_ok-expr-in-Match t c =
     c.get-in-Match-2.ensures)
     (e ∙ ap (λ (xs : List ExprArm). sought mid (arms_bring mid.kinds.names mid.vars c.in_ok-kind-in-Match.kind
     (expr_arms_view xs))) c.as_slice-in-Match.ensures.items)
-    (ap (expr_brings n vs c.args.asked) (expr_view-parts c.args.e.now)
-    ∙ ap (form_brings n vs c.args.asked) (ap expr_form_view c.in-Match.is ∙ expr_form_view-Match term c.in-Match.arms)
+    (form_seen n vs c.args.asked c.args.e.now _
+    (ap expr_form_view c.in-Match.is ∙ expr_form_view-Match term c.in-Match.arms)
     ∙ ap (λ k. expr_brings n vs None (expr_view term) ++ arms_bring n vs k (expr_arms_view c.in-Match.arms)) (sym kind)))
     c.arms.ensures
 
@@ -321,7 +319,7 @@ expr-returns-in_ok-add-in-SomeOf t c =
     (ap (λ table. record start { kinds = table }) c.in_ok-add-in-SomeOf.ensures)
     (e ∙ ap₂ (λ o (x : ExprNode). sought mid (expr_brings mid.kinds.names mid.vars o (expr_view x))) c.asked_inside.ensures
     c.get-in-SomeOf.ensures)
-    (ap (expr_brings n vs asked) (expr_view-parts c.args.e.now) ∙ ap (form_brings n vs asked) form
+    (form_seen n vs asked c.args.e.now _ form
     ∙ ap (λ k. parts n k ++ expr_brings n vs (asked_inside asked) (expr_view inside)) (sym own)))
     c.expr-in-SomeOf.ensures
 
