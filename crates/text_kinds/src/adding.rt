@@ -221,7 +221,7 @@ impl<'n, 'a> KindTable<'n, 'a> {
         self.add_maybes(kind.base, kind.maybes)
     }
 
-    /// Adds the datatypes inside a type, and then itself. `Err` is that it isn't known, too.
+    /// Adds the datatypes inside a type, and then itself. `Err` is also a `Maybe` of a type that isn't known.
     pub fn add(&mut self, kind: Kind) -> Result<(), Memory>
         ensures { OnOk result (kinds_view self.new ≡ with_kinds (parts (names_view self.old.names.now) kind)
             (kinds_view self.old)) }

@@ -31,7 +31,7 @@ fn type_count(decl: &DeclForm) -> u32
     }
 }
 
-/// The datatypes of a text with these names. `Err` is also that a type isn't known.
+/// The datatypes of a text with these names. `Err` is also a `Maybe` of a type that isn't known.
 pub fn datatypes_in<'n, 'a>(
     alloc: Global,
     names: &'n TextNames<'a>,
