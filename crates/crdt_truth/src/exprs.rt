@@ -95,7 +95,8 @@ pub fn values(
     exprs: &[Expr],
 ) -> Result<List<Value>, Memory>
     requires { ExsWithin (reading_view r.now) (binders_view binders.now) (exprs_view exprs.now) }
-    ensures { IfOk result (λ vs. values_view vs ≡ spec.values (reading_view r.now) (binders_view binders.now) (exprs_view exprs.now)) }
+    ensures { IfOk result (λ vs. values_view vs
+        ≡ spec.values (reading_view r.now) (binders_view binders.now) (exprs_view exprs.now)) }
 {
     let mut made = List::new(alloc);
     for e in exprs {

@@ -60,7 +60,9 @@ fn are_equal(
 ) -> Result<bool, Memory>
     requires left { ExWithin (reading_view r.now) (binders_view binders.now) (expr_view a.now) }
     requires right { ExWithin (reading_view r.now) (binders_view binders.now) (expr_view b.now) }
-    ensures { IfOk result (λ t. t ≡ spec.same_meant (spec.meant (reading_view r.now) (binders_view binders.now) (expr_view a.now)) (spec.meant (reading_view r.now) (binders_view binders.now) (expr_view b.now))) }
+    ensures { IfOk result (λ t. t
+        ≡ spec.same_meant (spec.meant (reading_view r.now) (binders_view binders.now) (expr_view a.now))
+        (spec.meant (reading_view r.now) (binders_view binders.now) (expr_view b.now))) }
 {
     let left = stands_for(alloc, r, binders, a)?;
     let right = stands_for(alloc, r, binders, b)?;
@@ -76,7 +78,9 @@ fn is_less(
 ) -> Result<bool, Memory>
     requires left { ExWithin (reading_view r.now) (binders_view binders.now) (expr_view a.now) }
     requires right { ExWithin (reading_view r.now) (binders_view binders.now) (expr_view b.now) }
-    ensures { IfOk result (λ t. t ≡ int_lt (spec.number (spec.value (reading_view r.now) (binders_view binders.now) (expr_view a.now))) (spec.number (spec.value (reading_view r.now) (binders_view binders.now) (expr_view b.now)))) }
+    ensures { IfOk result (λ t. t
+        ≡ int_lt (spec.number (spec.value (reading_view r.now) (binders_view binders.now) (expr_view a.now)))
+        (spec.number (spec.value (reading_view r.now) (binders_view binders.now) (expr_view b.now)))) }
 {
     let left = value(alloc, r, binders, a)?;
     let right = value(alloc, r, binders, b)?;
@@ -92,7 +96,9 @@ fn is_at_most(
 ) -> Result<bool, Memory>
     requires left { ExWithin (reading_view r.now) (binders_view binders.now) (expr_view a.now) }
     requires right { ExWithin (reading_view r.now) (binders_view binders.now) (expr_view b.now) }
-    ensures { IfOk result (λ t. t ≡ int_le (spec.number (spec.value (reading_view r.now) (binders_view binders.now) (expr_view a.now))) (spec.number (spec.value (reading_view r.now) (binders_view binders.now) (expr_view b.now)))) }
+    ensures { IfOk result (λ t. t
+        ≡ int_le (spec.number (spec.value (reading_view r.now) (binders_view binders.now) (expr_view a.now)))
+        (spec.number (spec.value (reading_view r.now) (binders_view binders.now) (expr_view b.now)))) }
 {
     let left = value(alloc, r, binders, a)?;
     let right = value(alloc, r, binders, b)?;
@@ -101,7 +107,9 @@ fn is_at_most(
 
 fn sees(alloc: Global, r: &Reading, binders: &Binders, call: &Expr) -> Result<bool, Memory>
     requires { ExWithin (reading_view r.now) (binders_view binders.now) (expr_view call.now) }
-    ensures { IfOk result (λ t. t ≡ spec.is_visible (reading_view r.now) (spec.value (reading_view r.now) (binders_view binders.now) (expr_view call.now))) }
+    ensures { IfOk result (λ t. t
+        ≡ spec.is_visible (reading_view r.now)
+        (spec.value (reading_view r.now) (binders_view binders.now) (expr_view call.now))) }
 {
     Ok(is_visible(r, &value(alloc, r, binders, call)?))
 }
@@ -115,7 +123,9 @@ fn comes_before(
 ) -> Result<bool, Memory>
     requires left { ExWithin (reading_view r.now) (binders_view binders.now) (expr_view a.now) }
     requires right { ExWithin (reading_view r.now) (binders_view binders.now) (expr_view b.now) }
-    ensures { IfOk result (λ t. t ≡ spec.is_before (parts_view r.now) (spec.value (reading_view r.now) (binders_view binders.now) (expr_view a.now)) (spec.value (reading_view r.now) (binders_view binders.now) (expr_view b.now))) }
+    ensures { IfOk result (λ t. t
+        ≡ spec.is_before (parts_view r.now) (spec.value (reading_view r.now) (binders_view binders.now) (expr_view a.now))
+        (spec.value (reading_view r.now) (binders_view binders.now) (expr_view b.now))) }
 {
     let left = value(alloc, r, binders, a)?;
     let right = value(alloc, r, binders, b)?;
@@ -131,7 +141,9 @@ fn are_of_one(
 ) -> Result<bool, Memory>
     requires left { ExWithin (reading_view r.now) (binders_view binders.now) (expr_view a.now) }
     requires right { ExWithin (reading_view r.now) (binders_view binders.now) (expr_view b.now) }
-    ensures { IfOk result (λ t. t ≡ spec.is_same (parts_view r.now) (spec.value (reading_view r.now) (binders_view binders.now) (expr_view a.now)) (spec.value (reading_view r.now) (binders_view binders.now) (expr_view b.now))) }
+    ensures { IfOk result (λ t. t
+        ≡ spec.is_same (parts_view r.now) (spec.value (reading_view r.now) (binders_view binders.now) (expr_view a.now))
+        (spec.value (reading_view r.now) (binders_view binders.now) (expr_view b.now))) }
 {
     let left = value(alloc, r, binders, a)?;
     let right = value(alloc, r, binders, b)?;
@@ -224,8 +236,11 @@ fn is_kept(
     body: &Formula,
 ) -> Result<bool, Memory>
     requires few { length r.now.infos.now < 4294967296 }
-    requires within { parts.is_in_range (parts_view r.now) over n ≡ true → FoWithin (reading_view r.now) (parts.member over n ∷ binders_view binders.now) (formula_view body.now) }
-    ensures { IfOk result (λ t. t ≡ (not (parts.is_in_range (parts_view r.now) over n) || spec.truth (reading_view r.now) (parts.member over n ∷ binders_view binders.now) (formula_view body.now))) }
+    requires within { parts.is_in_range (parts_view r.now) over n ≡ true
+        → FoWithin (reading_view r.now) (parts.member over n ∷ binders_view binders.now) (formula_view body.now) }
+    ensures { IfOk result (λ t. t
+        ≡ (not (parts.is_in_range (parts_view r.now) over n)
+        || spec.truth (reading_view r.now) (parts.member over n ∷ binders_view binders.now) (formula_view body.now))) }
 {
     if !is_in_range(r, over, n) {
         return Ok(true);
@@ -246,8 +261,11 @@ fn is_met(
     body: &Formula,
 ) -> Result<bool, Memory>
     requires few { length r.now.infos.now < 4294967296 }
-    requires within { parts.is_in_range (parts_view r.now) over n ≡ true → FoWithin (reading_view r.now) (parts.member over n ∷ binders_view binders.now) (formula_view body.now) }
-    ensures { IfOk result (λ t. t ≡ (parts.is_in_range (parts_view r.now) over n && spec.truth (reading_view r.now) (parts.member over n ∷ binders_view binders.now) (formula_view body.now))) }
+    requires within { parts.is_in_range (parts_view r.now) over n ≡ true
+        → FoWithin (reading_view r.now) (parts.member over n ∷ binders_view binders.now) (formula_view body.now) }
+    ensures { IfOk result (λ t. t
+        ≡ (parts.is_in_range (parts_view r.now) over n
+        && spec.truth (reading_view r.now) (parts.member over n ∷ binders_view binders.now) (formula_view body.now))) }
 {
     if !is_in_range(r, over, n) {
         return Ok(false);
@@ -257,7 +275,7 @@ fn is_met(
 }
 
 #[cycle(truth)]
-#[tactic(auto, using(rp_lang::proofs::FormulaViews::formula_views, crate::proofs::OpenViews::binders_views, crate::proofs::RangeLemmas::all_more))]
+#[tactic(auto, using(crate::proofs::RangeLemmas::all_more))]
 fn each_true(
     alloc: Global,
     r: &Reading,
@@ -267,7 +285,9 @@ fn each_true(
 ) -> Result<bool, Memory>
     requires few { length r.now.infos.now < 4294967296 }
     requires within { EachWithin (reading_view r.now) (binders_view binders.now) over (formula_view body.now) }
-    ensures { IfOk result (λ t. t ≡ each_member (parts_view r.now) over (λ v. spec.truth (reading_view r.now) (v ∷ binders_view binders.now) (formula_view body.now))) }
+    ensures { IfOk result (λ t. t
+        ≡ each_member (parts_view r.now) over
+        (λ v. spec.truth (reading_view r.now) (v ∷ binders_view binders.now) (formula_view body.now))) }
 {
     for n in 0..bound(r, over) {
         if !is_kept(alloc, r, binders, over, n, body)? {
@@ -278,7 +298,7 @@ fn each_true(
 }
 
 #[cycle(truth)]
-#[tactic(auto, using(rp_lang::proofs::FormulaViews::formula_views, crate::proofs::OpenViews::binders_views, crdt_defs::proofs::BelowLemmas::any_more))]
+#[tactic(auto, using(crdt_defs::proofs::BelowLemmas::any_more))]
 fn some_true(
     alloc: Global,
     r: &Reading,
@@ -288,7 +308,9 @@ fn some_true(
 ) -> Result<bool, Memory>
     requires few { length r.now.infos.now < 4294967296 }
     requires within { EachWithin (reading_view r.now) (binders_view binders.now) over (formula_view body.now) }
-    ensures { IfOk result (λ t. t ≡ some_member (parts_view r.now) over (λ v. spec.truth (reading_view r.now) (v ∷ binders_view binders.now) (formula_view body.now))) }
+    ensures { IfOk result (λ t. t
+        ≡ some_member (parts_view r.now) over
+        (λ v. spec.truth (reading_view r.now) (v ∷ binders_view binders.now) (formula_view body.now))) }
 {
     for n in 0..bound(r, over) {
         if is_met(alloc, r, binders, over, n, body)? {
@@ -310,7 +332,8 @@ fn arm_true(
 ) -> Result<bool, Memory>
     requires few { length r.now.infos.now < 4294967296 }
     requires within { ArmWithin (reading_view r.now) (binders_view binders.now) (value_view on.now) (arms_view arms.now) }
-    ensures { IfOk result (λ t. t ≡ spec.arm_true (reading_view r.now) (binders_view binders.now) (value_view on.now) (arms_view arms.now)) }
+    ensures { IfOk result (λ t. t
+        ≡ spec.arm_true (reading_view r.now) (binders_view binders.now) (value_view on.now) (arms_view arms.now)) }
 {
     match on {
         Value::Con { con, args } => {

@@ -54,7 +54,8 @@ fn operation_at(alloc: Global, h: &History, c: u32) -> Result<Meant, Memory>
 /// The operation of a call.
 #[tactic(auto, using(rp_value::proofs::ValueViews::value_views))]
 fn operation_of(alloc: Global, r: &Reading, call: &Value) -> Result<Meant, Memory>
-    ensures { IfOk result (λ m. meant_view m ≡ spec.operation_of (spec.call_at (reading_view r.now).parts (value_view call.now))) }
+    ensures { IfOk result (λ m. meant_view m
+        ≡ spec.operation_of (spec.call_at (reading_view r.now).parts (value_view call.now))) }
 {
     match call {
         Value::Call(c) => operation_at(alloc, r.history, *c),
@@ -126,7 +127,8 @@ fn result_of(alloc: Global, r: &Reading, inv: &Value) -> Result<Meant, Memory>
 
 fn plain(alloc: Global, r: &Reading, binders: &Binders, e: &Expr) -> Result<Meant, Memory>
     requires { ExWithin (reading_view r.now) (binders_view binders.now) (expr_view e.now) }
-    ensures { IfOk result (λ m. meant_view m ≡ spec.Plain (spec.value (reading_view r.now) (binders_view binders.now) (expr_view e.now))) }
+    ensures { IfOk result (λ m. meant_view m
+        ≡ spec.Plain (spec.value (reading_view r.now) (binders_view binders.now) (expr_view e.now))) }
 {
     Ok(Meant::Plain(value(alloc, r, binders, e)?))
 }

@@ -130,7 +130,9 @@ fn has_done(r: &Reading, i: u32) -> bool
 /// Whether each committed call of i is before each one of j.
 #[tactic(auto, using(crate::proofs::RangeLemmas::all_more))]
 fn are_before(r: &Reading, i: u32, j: u32) -> bool
-    ensures { result ≡ all_below (λ c. not (parts.is_done_by (parts_view r.now) i c) || parts.is_before_all_of (parts_view r.now) j c) (length (calls_view r.now.history.now)) }
+    ensures { result
+        ≡ all_below (λ c. not (parts.is_done_by (parts_view r.now) i c) || parts.is_before_all_of (parts_view r.now) j c)
+        (length (calls_view r.now.history.now)) }
 {
     for c in 0..r.history.len() {
         if !is_early(r, i, j, c) {

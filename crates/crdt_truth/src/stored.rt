@@ -121,7 +121,8 @@ fn found_by(
     query: u32,
     found: Found,
 ) -> Result<Value, Memory>
-    ensures { IfOk result (λ v. value_view v ≡ spec.answer_val (program_view p.now) (calls_view h.now) (slice_get p.now.queries query) (answer.Value found)) }
+    ensures { IfOk result (λ v. value_view v
+        ≡ spec.answer_val (program_view p.now) (calls_view h.now) (slice_get p.now.queries query) (answer.Value found)) }
 {
     match p.queries.as_slice().get(query as usize) {
         Some(query) => found_value(alloc, p, h, query.result, found),
