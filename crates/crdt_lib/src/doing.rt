@@ -19,7 +19,7 @@ fn is_key(step: PathStep) -> bool
 }
 
 /// How many steps of the path are keys.
-pub(crate) fn keys_in(path: &[PathStep]) -> usize
+pub fn keys_in(path: &[PathStep]) -> usize
     ensures keys { result ≡ spec.keys_in path.now }
     ensures few { result ≤ length path.now }
 {

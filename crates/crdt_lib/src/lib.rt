@@ -13,7 +13,8 @@ mod snapshot;
 mod view;
 
 pub use atoms::atoms_of;
+pub use doing::keys_in;
 pub use history::History;
-pub use query::{holds, query_holds, query_value, value_of};
+pub use query::{answer_of, holds, query_holds, query_value, value_of};
 pub use snapshot::is_snapshot;
 pub use view::{ListView, View};

@@ -248,8 +248,9 @@ pub fn query_value<V: View>(
     found(answer_to(h, roots, ops, query, view, args))
 }
 
-/// The answer of a program's query, `false` where the program has no query of that number.
-fn answer_of<V: View>(p: &Program, h: &History, view: &V, query: u32, args: &[Value]) -> Answer
+/// The answer of a program's query at the calls of a view, `false` where the program has no query of that number. It
+/// takes no memory.
+pub fn answer_of<V: View>(p: &Program, h: &History, view: &V, query: u32, args: &[Value]) -> Answer
     ensures { result ≡ spec.answer_in (program_view p.now) query (calls_view h.now) (set.contains (V.calls view.now)) (map value_view args.now) }
 {
     match p.queries.as_slice().get(query as usize) {

@@ -1,0 +1,3 @@
+pub mod Weights
+pub mod PointLaws
+pub mod ActionLaws

@@ -1,0 +1,4 @@
+pub mod Points
+pub mod PointView
+pub mod Actions
+pub mod ActionView

@@ -1,0 +1,3 @@
+pub mod OpenViews
+pub mod ListValues
+pub mod RangeLemmas

@@ -1,0 +1,5 @@
+pub mod Readings
+pub mod Open
+pub mod Meanings
+pub mod Within
+pub mod Breadths
