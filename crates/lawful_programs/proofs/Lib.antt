@@ -1,0 +1,10 @@
+mod Wholes
+mod Types
+mod Numbers
+mod Looks
+mod Reached
+mod Parts
+mod Sides
+mod Exprs
+mod Bases
+mod Fields
