@@ -41,7 +41,7 @@ mod StmtRows
 mod StmtFrames
 mod StmtForms
 mod StmtTypes
-mod ProcFlows
+pub mod ProcFlows
 mod Invariants
 mod Within
 pub mod InsideStmts

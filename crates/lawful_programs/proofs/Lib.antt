@@ -8,3 +8,11 @@ mod Sides
 mod Exprs
 mod Bases
 mod Fields
+mod Sounds
+mod Calls
+mod Crdts
+mod Paths
+mod Roots
+mod Texts
+mod Uses
+mod Names

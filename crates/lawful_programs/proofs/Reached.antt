@@ -148,7 +148,7 @@ no_terms uses k plain known no_ex no_ex e h = (term known, refl, tt)
 no_terms uses k plain known no_ex (also_ex x xs) e h = absurd (omega (arith, h))
 no_terms uses k plain known (also_ex x xs) es e h = absurd (omega (arith, e))
 
-before : (b : ℕ) (e : Entry) → is_late_query b (Some e) ≡ false → is_query e.what ≡ true → e.decl < b
+pub before : (b : ℕ) (e : Entry) → is_late_query b (Some e) ≡ false → is_query e.what ≡ true → e.decl < b
 before b e late query = leb-false b e.decl (by_query (is_query e.what) (nat_le b e.decl) late query) where
   by_query : (query late : Bool) → (query && late) ≡ false → query ≡ true → late ≡ false
   by_query true late e h = e
@@ -174,7 +174,7 @@ of_entries t b uses ready vs x steps args (Some e) is some fit early fits =
       gives = call.gives;
     }
 
-late_there : (n : Names) (sc : Scope) (x : Ident) (b : ℕ) → sc.decl ≡ b → late_query n sc x ≡ None → is_var sc.vars x ≡ false
+pub late_there : (n : Names) (sc : Scope) (x : Ident) (b : ℕ) → sc.decl ≡ b → late_query n sc x ≡ None → is_var sc.vars x ≡ false
     → is_late_query b (entry_named n (text_of x)) ≡ false
 late_there n sc x b decl e is =
     subst (λ k. is_late_query k (entry_named n (text_of x)) ≡ false) decl
