@@ -1,21 +1,19 @@
 -- The declared types of a lawful text have numbers, and so have those of their fields.
-use Rattle.std.proofs.Common.{◌≡◌, ◌≤◌, ◌+◌, ◌==◌, ℕ, zero, suc, Bool, true, false, cond, List, [], ◌∷◌, ◌++◌, map, length, Option, Some, None, refl, ap, subst, sym, ◌∙◌, arith, inl, inr}
+use Rattle.std.proofs.Common.{◌≡◌, ◌+◌, ◌==◌, ℕ, zero, suc, true, false, cond, List, [], ◌∷◌, ◌++◌, map, length, Some, refl, ap, subst, sym, ◌∙◌, arith, inl, inr}
 use Rattle.std.specs.Prelude.{slice_get, reverse, flat_map}
 use Rattle.std.specs.List.{AllByRecursion}
 use Rattle.std.proofs.lemmas.Bool.{eq-eqb, ne_eqb}
 use Rattle.std.proofs.lemmas.Grind.{reverse_onto}
 use Rattle.std.proofs.lemmas.List.{length-reverse, reverse-reverse}
 use Rattle.std.proofs.lemmas.Option.{slice_get_within}
-use Rattle.rp_span.specs.declared.Span.{Span}
-use Rattle.rp_value.specs.declared.tables.Ty.{Ty}
 use Rattle.rp_value.specs.declared.tables.Ty.TheVariants as ty
 use Rattle.rp_grammar.specs.Trees.{ConTree, ParamTree, DeclForm, DeclTree}
 use Rattle.type_rules.specs.declared.kind.Kind.{Kind}
 use Rattle.type_rules.specs.declared.kind.Base.{Base}
 use Rattle.type_rules.specs.declared.kind.Base.TheVariants as base
 use Rattle.type_rules.specs.declared.role.Role.TheVariants as role
-use Rattle.type_rules.specs.Names.{Names, TypeSort, TypeEntry, con_fields, param_name, param_type, types_in, types_from}
-use Rattle.type_rules.specs.Kinds.{bool_kind, plain_kind, is_any, kind_of, param_kinds}
+use Rattle.type_rules.specs.Names.{Names, TypeSort, TypeEntry, param_name, param_type, types_from}
+use Rattle.type_rules.specs.Kinds.{bool_kind, plain_kind, is_any, param_kinds}
 use Rattle.type_rules.specs.Queries.{names_of}
 use Rattle.type_rules.specs.DeclSites.{named_all, written_all, con_sites}
 use Rattle.type_rules.specs.TextSites.{Seen, nothing_seen, with_decl, decl_sites}
@@ -32,7 +30,7 @@ use Rattle.lawful.proofs.Listed.{in_left, in_right, in_flat, in_once}
 use Rattle.lawful.proofs.Places.{Lawfully, all_lawful, all_parts, all_both, is_one_of, types_are}
 use Rattle.lawful.proofs.WrittenTypes.{IsBase, data_known, parts_there, sort_known, written_base}
 use Rattle.lawful_programs.specs.Valued.{IsWhole, AllWhole}
-use Rattle.lawful_programs.proofs.Wholes.{kind_self, maybes_more, none_below}
+use Rattle.lawful_programs.proofs.Wholes.{kind_self, maybes_more}
 
 -- # Declared datatypes are numbered, with all that stands in their fields
 

@@ -1,17 +1,17 @@
 -- Constructors and procedures that are called have numbers.
-use Rattle.std.proofs.Common.{◌≡◌, ◌+◌, ℕ, zero, suc, Bool, true, false, cond, List, [], ◌∷◌, map, length, Option, Some, None, refl, ap, subst, sym, ◌∙◌, arith, inl, inr}
-use Rattle.std.specs.Prelude.{slice_get, filter_map, option_map, position}
-use Rattle.std.specs.List.{AllByRecursion, cons_option}
+use Rattle.std.proofs.Common.{◌≡◌, ℕ, zero, suc, Bool, true, false, cond, List, [], ◌∷◌, map, length, Option, Some, None, refl, ap, subst, sym, ◌∙◌, arith, inl, inr}
+use Rattle.std.specs.Prelude.{slice_get, filter_map, option_map}
+use Rattle.std.specs.List.{cons_option}
 use Rattle.std.proofs.lemmas.Cmp.{nat_list_eq_equiv}
 use Rattle.std.proofs.lemmas.Option.{slice_get-map}
 use Rattle.rp_value.specs.declared.tables.Ty.TheVariants as ty
-use Rattle.rp_grammar.specs.Trees.{Ident, TypeTree, ConTree, ProcTree, StepTree, StepTrees, DeclTree}
+use Rattle.rp_grammar.specs.Trees.{Ident, TypeTree, ConTree, ProcTree, StepTree, StepTrees}
 use Rattle.rp_lang.specs.Exprs.{Con, InfoTerm, Exs, no_ex, also_ex}
 use Rattle.type_rules.specs.declared.kind.Kind.{Kind}
 use Rattle.type_rules.specs.declared.kind.Base.TheVariants as base
 use Rattle.type_rules.specs.Names.{Name, Names, Declared, same_name, text_of, con_name, con_fields}
 use Rattle.type_rules.specs.Kinds.{plain_kind, param_kinds}
-use Rattle.type_rules.specs.Accesses.{Access, of_entry, proc_params, proc_result, result_args}
+use Rattle.type_rules.specs.Accesses.{of_entry, proc_params, proc_result, result_args}
 use Rattle.type_rules.specs.Matches.{Case, find_case, cases_of, con_case, declared_cases, sort_cases}
 use Rattle.type_rules.specs.Rules.{misfit_in}
 use Rattle.type_rules.specs.Faults.{IsOneOf}

@@ -1,16 +1,14 @@
 -- The types of a root's keys and elements have numbers.
-use Rattle.std.proofs.Common.{◌≡◌, ◌≤◌, ◌+◌, ◌==◌, ◌&&◌, ℕ, zero, suc, Bool, true, false, List, [], ◌∷◌, ◌++◌, Option, Some, None, refl, ap, subst, sym, ◌∙◌, arith}
-use Rattle.std.specs.Prelude.{codes, reverse}
+use Rattle.std.proofs.Common.{◌≡◌, ◌+◌, ◌==◌, ℕ, zero, suc, true, List, [], ◌∷◌, Some, refl, ap, subst, sym, ◌∙◌, arith}
+use Rattle.std.specs.Prelude.{reverse}
 use Rattle.std.specs.List.{AllByRecursion}
 use Rattle.std.proofs.lemmas.Bool.{and_from, eq-eqb, true≢false}
-use Rattle.rp_span.specs.declared.Span.{Span}
 use Rattle.rp_grammar.specs.Trees.{TypeTree, CrdtTree, CrdtForm, FieldTree, FieldTrees}
 use Rattle.type_rules.specs.declared.kind.Kind.{Kind}
 use Rattle.type_rules.specs.declared.kind.Base.TheVariants as base
 use Rattle.type_rules.specs.declared.role.Role.TheVariants as role
-use Rattle.type_rules.specs.Names.{Names}
 use Rattle.type_rules.specs.Kinds.{bool_kind, operation_kind, same_base, maybe_of, kind_of}
-use Rattle.type_rules.specs.Paths.{Member, form_of, is_question, members_of}
+use Rattle.type_rules.specs.Paths.{Member, is_question, members_of}
 use Rattle.type_rules.specs.Sites.{Site}
 use Rattle.type_rules.specs.DeclSites.{crdt_sites, crdt_form_sites, field_names, fields_sites, named_all}
 use Rattle.type_rules.specs.Rules.{rule, rules, rule02}
@@ -23,7 +21,7 @@ use Rattle.lawful.proofs.Places.{Lawfully, all_parts, is_one_of}
 use Rattle.lawful.proofs.Roots.{Reaches, field_at}
 use Rattle.lawful.proofs.WrittenTypes.{written_base}
 use Rattle.lawful_programs.specs.Valued.{IsWhole, AllWhole}
-use Rattle.lawful_programs.proofs.Wholes.{bare_whole, int_whole, kind_self, truth_whole, whole_not_any}
+use Rattle.lawful_programs.proofs.Wholes.{bare_whole, int_whole, kind_self, whole_not_any}
 use Rattle.lawful_programs.proofs.Bases.{Within, within_left, within_right, Numbered, based_whole}
 
 -- # The types that a root writes
@@ -143,4 +141,4 @@ members_whole t bool CrdtForm.counter whole =
     (op_member t _ (int_whole t, tt) refl, (record { args = tt; result = int_whole t; truth = λ h. absurd (true≢false (sym (ap (λ z. same_base z.base base.Bool) h))) }, tt))
 members_whole t bool (CrdtForm.map_uw e c) whole = (op_member t _ (whole.0, tt) refl, (record { args = (whole.0, tt); result = bool; truth = λ h. refl }, tt))
 members_whole t bool (CrdtForm.map_dw e c) whole = (op_member t _ (whole.0, tt) refl, (record { args = (whole.0, tt); result = bool; truth = λ h. refl }, tt))
-members_whole t bool (CrdtForm.struct fields) whole = tt
+members_whole t bool (CrdtForm.struct parts_) whole = tt

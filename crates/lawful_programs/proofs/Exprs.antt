@@ -1,34 +1,30 @@
 -- What an expression of a lawful place becomes.
-use Rattle.std.proofs.Common.{◌≡◌, ◌+◌, ℕ, suc, Bool, true, false, ◌&&◌, List, [], ◌∷◌, ◌++◌, length, codes, Option, Some, None, refl, ap, subst, sym, ◌∙◌, arith, inl, inr}
-use Rattle.std.specs.Prelude.{option_map}
-use Rattle.std.proofs.lemmas.Bool.{eqb-true, not-false, or_parts, and_parts, or_left}
+use Rattle.std.proofs.Common.{◌≡◌, ◌+◌, ℕ, Bool, true, false, List, [], ◌∷◌, ◌++◌, length, Option, Some, None, refl, subst, sym, ◌∙◌, arith, inl}
+use Rattle.std.proofs.lemmas.Bool.{eqb-true, not-false, or_parts}
 use Rattle.rp_span.specs.declared.Span.{Span}
-use Rattle.rp_grammar.specs.declared.operator.CompareOp.{CompareOp}
-use Rattle.rp_grammar.specs.declared.operator.CompareOp.TheVariants as compare
-use Rattle.rp_grammar.specs.Trees.{Ident, ParamTree, PatternTree, ExprTree, ExprForm, ExprTrees, ExprArmTree, ExprArmTrees, AccessTree, StepTree, StepTrees, ArgTrees}
+use Rattle.rp_grammar.specs.Trees.{ParamTree, PatternTree, ExprTree, ExprForm, ExprTrees, ExprArmTree, ExprArmTrees, AccessTree, StepTree, StepTrees, ArgTrees}
 use Rattle.rp_lang.specs.Exprs.{Ex, Int, Str, Con, OpTerm, Unreturned, Exs, no_ex, also_ex}
 use Rattle.rp_lang.specs.Formulas.{Fos, no_fo, Arms, no_arm}
 use Rattle.type_rules.specs.declared.kind.Kind.{Kind}
 use Rattle.type_rules.specs.Names.{Name, text_of, param_name, param_type}
-use Rattle.type_rules.specs.Kinds.{bool_kind, int_kind, kind_of, maybe_of}
+use Rattle.type_rules.specs.Kinds.{int_kind, kind_of, maybe_of}
 use Rattle.type_rules.specs.Paths.{Way, stepped, key_kind}
-use Rattle.type_rules.specs.Accesses.{find_var, access_of, args_of, count}
-use Rattle.type_rules.specs.Typing.{type_of, is_plain, is_plain_access, are_plain, are_plain_steps, are_plain_args, asked_inside}
-use Rattle.type_rules.specs.Sites.{Scope, Want, Site}
-use Rattle.type_rules.specs.Matches.{pattern_vars, pattern_name, pattern_kinds, bound_sites}
-use Rattle.type_rules.specs.ExprSites.{expr_sites, form_sites, operand_sites, arg_sites, arm_sites, step_sites, given_sites, pattern_sites, bool_operand, int_operand, bool_whole, ordered_side, argument, held, matched, left_want, right_want, left_asked, left_side, right_side, with_var, quantified_var, with_pattern, way_from, word_args, is_equality}
+use Rattle.type_rules.specs.Accesses.{find_var, count}
+use Rattle.type_rules.specs.Typing.{type_of, is_plain, are_plain, asked_inside}
+use Rattle.type_rules.specs.Sites.{Scope, Want}
+use Rattle.type_rules.specs.Matches.{pattern_vars, pattern_name, pattern_kinds}
+use Rattle.type_rules.specs.ExprSites.{expr_sites, operand_sites, arg_sites, arm_sites, step_sites, given_sites, pattern_sites, bool_operand, int_operand, bool_whole, argument, held, matched, left_want, right_want, with_var, quantified_var, with_pattern, way_from, word_args}
 use Rattle.type_rules.specs.Rules.{rule, rules, rule14, is_datatype_kind}
-use Rattle.desugaring.specs.Parts.{both}
-use Rattle.desugaring.specs.Tables.{Tables, ty_of, con_number}
+use Rattle.desugaring.specs.Tables.{Tables, con_number}
 use Rattle.desugaring.specs.Values.{term, formula, one_ex, truth, sum, difference, compared, word_of}
-use Rattle.desugaring.specs.Callees.{Vars, vars_of}
+use Rattle.desugaring.specs.Callees.{Vars}
 use Rattle.desugaring.specs.Expressions.{Uses, value, formulas, terms, arg_terms, key_terms, arm_formulas, term_in, under_quantifier, under_pattern, implied, negated, each_of, one_of, for_all, for_some, constructed, with_formula, with_arm, word_none, word_some}
 use Rattle.desugaring.specs.Expressions as made
 use Rattle.desugaring.proofs.Options.{both_is, map_is, term_is, then_is, three_is}
 use Rattle.lawful.specs.Typed.{Along}
 use Rattle.lawful.proofs.Basics.{when_not}
 use Rattle.lawful.proofs.Places.{all_parts, all_both, is_one_of}
-use Rattle.lawful_programs.specs.Valued.{Sound, AllSound, IsWhole, AllWhole, VarWhole, VarsWhole, AskedWhole, Valued, Ready, Seen, count_args, count_terms}
+use Rattle.lawful_programs.specs.Valued.{Sound, AllSound, IsWhole, AllWhole, VarWhole, AskedWhole, Valued, Ready, count_args, count_terms}
 use Rattle.lawful_programs.proofs.Wholes.{whole_known, written_whole, int_whole, truth_whole}
 use Rattle.lawful_programs.proofs.Types.{AccessesWhole, type_whole}
 use Rattle.lawful_programs.proofs.Numbers.{arm_there, inside_whole, none_number, some_number}

@@ -1,12 +1,12 @@
 -- The variables of a pattern for a type that has a number have types that have numbers.
-use Rattle.std.proofs.Common.{◌≡◌, ◌==◌, ◌&&◌, ℕ, zero, suc, Bool, true, false, cond, List, [], ◌∷◌, ◌++◌, map, Option, Some, None, refl, subst, sym}
+use Rattle.std.proofs.Common.{◌≡◌, ◌==◌, ◌&&◌, ℕ, zero, suc, Bool, true, false, cond, List, [], ◌∷◌, map, Option, Some, None, refl}
 use Rattle.std.specs.Prelude.{slice_get}
 use Rattle.std.specs.List.{AllByRecursion}
 use Rattle.rp_grammar.specs.Trees.{ConTree}
 use Rattle.type_rules.specs.declared.kind.Kind.{Kind}
 use Rattle.type_rules.specs.declared.kind.Base.{Base}
 use Rattle.type_rules.specs.declared.kind.Base.TheVariants as base
-use Rattle.type_rules.specs.Names.{Name, Names, TypeSort, TypeEntry, same_name, con_fields}
+use Rattle.type_rules.specs.Names.{Name, TypeSort, TypeEntry, same_name, con_fields}
 use Rattle.type_rules.specs.Kinds.{is_open, param_kinds}
 use Rattle.type_rules.specs.Matches.{Case, case_fields, case_named, cases_of, con_case, declared_cases, find_case, maybe_cases, pattern_kinds, sort_cases}
 use Rattle.desugaring.specs.Appearances.{field_kinds}

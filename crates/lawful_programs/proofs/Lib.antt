@@ -16,3 +16,5 @@ mod Roots
 mod Texts
 mod Uses
 mod Names
+mod Invariants
+mod Tables

@@ -1,7 +1,6 @@
 -- The variables in sight, by the type rules and by what they stand for.
-use Rattle.std.proofs.Common.{◌≡◌, ℕ, suc, Bool, true, false, cond, List, [], ◌∷◌, ◌++◌, map, length, Option, Some, None, refl, arith}
-use Rattle.std.specs.List.{AllByRecursion}
-use Rattle.rp_grammar.specs.Trees.{Ident, ExprTree, ExprTrees}
+use Rattle.std.proofs.Common.{◌≡◌, Bool, true, false, cond, List, [], ◌∷◌, ◌++◌, map, length, Option, Some, None, arith}
+use Rattle.rp_grammar.specs.Trees.{Ident, ExprTree}
 use Rattle.rp_lang.specs.Exprs.{Ex, Bound}
 use Rattle.type_rules.specs.declared.kind.Kind.{Kind}
 use Rattle.type_rules.specs.Names.{Name, Names, same_name, text_of}

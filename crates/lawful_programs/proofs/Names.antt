@@ -1,17 +1,16 @@
 -- What is told by a text's names alone doesn't hang on which of its queries aren't plain terms.
-use Rattle.std.proofs.Common.{◌≡◌, ◌+◌, ◌<◌, ℕ, zero, suc, Bool, true, false, not, ◌&&◌, List, [], ◌∷◌, ◌++◌, map, length, Option, Some, None, refl, ap, subst, sym, ◌∙◌, arith}
+use Rattle.std.proofs.Common.{◌≡◌, ◌+◌, ◌<◌, ℕ, zero, suc, Bool, true, false, not, ◌&&◌, List, [], ◌∷◌, ◌++◌, length, Option, Some, None, refl, ap, subst, sym, ◌∙◌, arith}
 use Rattle.std.specs.Prelude.{codes, find, is_some, slice_get}
 use Rattle.rp_span.specs.declared.Span.{Span}
-use Rattle.rp_grammar.specs.declared.operator.CallWord.{CallWord}
-use Rattle.rp_grammar.specs.Trees.{Ident, TypeTree, TypeForm, ParamTree, CrdtTree, CrdtForm, ExprTree, ExprForm, ExprTrees, AccessTree, StepTree, StepTrees, ArgTrees, QueryTree, DeclForm, DeclTree}
+use Rattle.rp_grammar.specs.Trees.{Ident, TypeTree, TypeForm, ParamTree, CrdtTree, CrdtForm, ExprTree, ExprForm, ExprTrees, AccessTree, StepTree, StepTrees, ArgTrees, DeclTree}
 use Rattle.type_rules.specs.declared.kind.Kind.{Kind}
 use Rattle.type_rules.specs.Names.{Name, Names, Entry, Declared, entry_named, param_name, param_type, same_name, text_of}
-use Rattle.type_rules.specs.Kinds.{bool_kind, int_kind, operation_kind, maybe_of, kind_of, form_kind}
-use Rattle.type_rules.specs.Paths.{Does, Member, Way, at_field, form_of, get, map_members, member_of, members_of, operation, past_dot, key_kind, question, set_members, stepped, to_member, walked}
-use Rattle.type_rules.specs.Accesses.{Var, Access, access_of, alone, find_var, args_of, of_declared, of_entry, of_name, of_proc, of_way}
+use Rattle.type_rules.specs.Kinds.{maybe_of, kind_of, form_kind}
+use Rattle.type_rules.specs.Paths.{Does, Member, Way, at_field, form_of, get, map_members, members_of, operation, past_dot, key_kind, question, set_members, stepped, to_member, walked}
+use Rattle.type_rules.specs.Accesses.{Var, Access, alone, find_var, args_of, of_declared, of_entry, of_name, of_way}
 use Rattle.type_rules.specs.Typing.{flag, is_plain, is_plain_form, is_plain_access, is_plain_step, is_plain_word, are_plain, are_plain_steps, are_plain_args}
 use Rattle.type_rules.specs.Queries.{is_formula_decl, param_var, param_vars, with_flag, with_formulas}
-use Rattle.type_rules.specs.Sites.{Scope, Want, Site}
+use Rattle.type_rules.specs.Sites.{Scope, Want}
 use Rattle.type_rules.specs.Matches.{first_kind, other_kinds}
 use Rattle.type_rules.specs.ExprSites.{argument, arg_sites, expr_sites, given_sites, held, int_operand, key_sites, step_sites, way_from, word_args}
 use Rattle.type_rules.specs.Rules.{is_late_query, late_query, rule, rules, rule03}

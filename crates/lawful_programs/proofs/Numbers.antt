@@ -1,12 +1,11 @@
 -- The constructors of a type of the program have numbers.
-use Rattle.std.proofs.Common.{◌≡◌, ◌+◌, ◌-◌, ℕ, zero, suc, Bool, true, false, not, ◌&&◌, ◌||◌, ◌==◌, List, [], ◌∷◌, map, length, Option, Some, None, refl, ap, subst, sym, ◌∙◌, cond, arith, inl, inr}
-use Rattle.std.specs.Prelude.{slice_get, unwrap_or, option_map, is_some, codes, flat_map}
+use Rattle.std.proofs.Common.{◌≡◌, ◌+◌, ◌-◌, ℕ, zero, suc, Bool, true, false, ◌&&◌, ◌==◌, List, [], ◌∷◌, map, length, Option, Some, None, refl, ap, subst, sym, ◌∙◌, cond, arith, inl, inr}
+use Rattle.std.specs.Prelude.{slice_get, unwrap_or, codes}
 use Rattle.std.proofs.lemmas.Bool.{and_from, eq-eqb, eqb-true, ne_eqb, not-false, or_parts}
-use Rattle.rp_value.specs.declared.tables.Ty.{Ty}
 use Rattle.rp_value.specs.declared.tables.Ty.TheVariants as ty
-use Rattle.rp_grammar.specs.Trees.{Ident, PatternTree}
+use Rattle.rp_grammar.specs.Trees.{PatternTree}
 use Rattle.type_rules.specs.declared.kind.Kind.{Kind}
-use Rattle.type_rules.specs.Names.{Name, Names, same_name, text_of}
+use Rattle.type_rules.specs.Names.{Name, same_name}
 use Rattle.type_rules.specs.declared.kind.Base.{Base}
 use Rattle.type_rules.specs.Kinds.{is_any, is_unknown, maybe_of, unknown_kind}
 use Rattle.type_rules.specs.Typing.{asked_inside, none_kind}
@@ -16,13 +15,13 @@ use Rattle.type_rules.specs.Rules.{rule, rules, rule18, is_datatype_kind, is_cas
 use Rattle.type_rules.specs.Faults.{IsOneOf}
 use Rattle.desugaring.specs.Parts.{each}
 use Rattle.desugaring.specs.Appearances.{same_kind}
-use Rattle.desugaring.specs.Tables.{Tables, Con, cons, cons_of, con_number, arm_number, datatype_ty, datatype_number, with_fields}
+use Rattle.desugaring.specs.Tables.{Tables, Con, cons, cons_of, con_number, arm_number, datatype_number, with_fields}
 use Rattle.desugaring.specs.Expressions.{word_none, word_some}
 use Rattle.desugaring.proofs.Options.{both_is, map_there, then_is}
 use Rattle.lawful.specs.Typed.{IsKnown}
 use Rattle.lawful.proofs.Arms.{there_are_cases}
 use Rattle.lawful.proofs.Basics.{kind_one, when_not}
-use Rattle.lawful.proofs.Cons.{First, Named, con_in, first_of_position, in_types, is_con, no_con, ty_parts}
+use Rattle.lawful.proofs.Cons.{Named, con_in, first_of_position, in_types, is_con, no_con, ty_parts}
 use Rattle.lawful.proofs.Listed.{in_flat, position_there}
 use Rattle.lawful.proofs.Maybes.{maybe_there}
 use Rattle.lawful.proofs.Places.{is_one_of}

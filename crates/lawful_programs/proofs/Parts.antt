@@ -1,20 +1,18 @@
 -- Values of nodes, from those of their parts.
-use Rattle.std.proofs.Common.{◌≡◌, ◌+◌, ℕ, Bool, true, false, not, ◌&&◌, ◌||◌, ◌==◌, List, [], ◌∷◌, length, Option, Some, None, refl, ap, subst, sym, ◌∙◌, cond, arith, inl, inr, ◌⊎◌}
-use Rattle.std.proofs.lemmas.Bool.{eqb-true, not-false, or_parts, and_parts, true≢false}
+use Rattle.std.proofs.Common.{◌≡◌, ◌+◌, ℕ, Bool, true, false, not, ◌&&◌, ◌==◌, List, [], ◌∷◌, length, Option, Some, None, refl, ap, subst, sym, ◌∙◌, cond, arith, inl, inr, ◌⊎◌}
+use Rattle.std.proofs.lemmas.Bool.{not-false, or_parts, true≢false}
 use Rattle.std.specs.List.{AllByRecursion}
 use Rattle.std.specs.Prelude.{option_and_then}
 use Rattle.rp_span.specs.declared.Span.{Span}
 use Rattle.rp_value.specs.declared.tables.Ty.TheVariants as ty
 use Rattle.rp_grammar.specs.declared.operator.CallWord.{CallWord}
 use Rattle.rp_grammar.specs.declared.operator.CallWord.TheVariants as called
-use Rattle.rp_grammar.specs.Trees.{ExprTree, ExprForm, ExprTrees}
+use Rattle.rp_grammar.specs.Trees.{ExprTree, ExprTrees}
 use Rattle.rp_lang.specs.Exprs.{Ex, Exs, no_ex, also_ex}
-use Rattle.rp_lang.specs.Formulas.{Fo}
 use Rattle.type_rules.specs.declared.kind.Kind.{Kind}
 use Rattle.type_rules.specs.declared.kind.Base.TheVariants as base
-use Rattle.type_rules.specs.Names.{Names}
-use Rattle.type_rules.specs.Kinds.{bool_kind, fits, is_any}
-use Rattle.type_rules.specs.Accesses.{Var, count}
+use Rattle.type_rules.specs.Kinds.{bool_kind, fits}
+use Rattle.type_rules.specs.Accesses.{Var}
 use Rattle.type_rules.specs.Typing.{type_of, is_plain, is_plain_word, called_kind}
 use Rattle.type_rules.specs.Sites.{Scope, Want, Site}
 use Rattle.type_rules.specs.ExprSites.{argument, expr_sites, word_args, first_type, is_invocation, call_kind, invocation_kind}

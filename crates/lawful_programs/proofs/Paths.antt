@@ -1,15 +1,14 @@
 -- Where a path leads by the type rules, it leads by the text's operations and queries.
-use Rattle.std.proofs.Common.{◌≡◌, ◌+◌, ℕ, zero, suc, Bool, true, false, cond, List, [], ◌∷◌, ◌++◌, map, Option, Some, None, refl, ap, subst, sym, ◌∙◌, arith, inl, inr}
+use Rattle.std.proofs.Common.{◌≡◌, ◌+◌, ℕ, zero, suc, Bool, true, false, cond, List, [], ◌∷◌, ◌++◌, Option, Some, None, refl, ap, subst, sym, ◌∙◌, arith, inl, inr}
 use Rattle.std.specs.Prelude.{slice_get, filter_map, find, option_map, position}
 use Rattle.std.specs.List.{cons_option}
 use Rattle.std.specs.Option.{option_zip}
 use Rattle.std.proofs.lemmas.List.{append_assoc}
 use Rattle.rp_span.specs.declared.Span.{Span}
 use Rattle.rp_grammar.specs.Trees.{Ident, CrdtTree, CrdtForm, FieldTree, FieldTrees, StepTree, StepTrees}
-use Rattle.type_rules.specs.declared.kind.Kind.{Kind}
 use Rattle.type_rules.specs.Names.{Name, Names, same_name, text_of}
 use Rattle.type_rules.specs.Kinds.{kind_of}
-use Rattle.type_rules.specs.Paths.{Member, Way, field_of, form_of, member_of, past_dot, stepped, to_member, walked}
+use Rattle.type_rules.specs.Paths.{Member, Way, field_of, form_of, past_dot, to_member, walked}
 use Rattle.type_rules.specs.Faults.{IsOneOf}
 use Rattle.desugaring.specs.Objects.{AtField, KindStep, Own, Reached, Root, all_in_fields, all_inside, all_of, all_on, field, field_named, follow, key, past}
 use Rattle.desugaring.specs.Callees.{located}

@@ -1,15 +1,15 @@
 -- What an access of a lawful place calls.
-use Rattle.std.proofs.Common.{◌≡◌, ◌+◌, ◌<◌, ℕ, suc, Bool, true, false, not, ◌&&◌, ◌==◌, List, [], ◌∷◌, map, length, Option, Some, None, refl, ap, subst, sym, ◌∙◌, cond, arith}
+use Rattle.std.proofs.Common.{◌≡◌, ◌<◌, ℕ, suc, Bool, true, false, not, ◌&&◌, ◌==◌, List, [], ◌∷◌, map, length, Option, Some, None, refl, ap, subst, sym, ◌∙◌, cond, arith}
 use Rattle.std.specs.Prelude.{is_some, option_map, nat_le}
 use Rattle.std.proofs.lemmas.Bool.{eqb-true, leb-false, ne_eqb, not-false, or_parts}
 use Rattle.rp_span.specs.declared.Span.{Span}
-use Rattle.rp_grammar.specs.Trees.{Ident, ExprTree, ExprForm, ExprTrees, ParamTree, AccessTree, StepTree, StepTrees, ArgTrees, QueryTree, ProcTree}
+use Rattle.rp_grammar.specs.Trees.{Ident, ExprTree, ExprForm, ParamTree, AccessTree, StepTree, StepTrees, ArgTrees}
 use Rattle.rp_lang.specs.Exprs.{Ex, Exs, no_ex, also_ex}
 use Rattle.type_rules.specs.declared.kind.Kind.{Kind}
-use Rattle.type_rules.specs.Names.{Name, Names, Entry, Declared, text_of, entry_named, con_fields, param_type}
+use Rattle.type_rules.specs.Names.{Names, Entry, Declared, text_of, entry_named, con_fields, param_type}
 use Rattle.type_rules.specs.Kinds.{kind_of}
 use Rattle.type_rules.specs.Paths.{Way, walked}
-use Rattle.type_rules.specs.Accesses.{Var, Access, find_var, access_kind, access_of, args_of, args_fit, alone, con_args_fit, count, has_args, is_bare, of_declared, of_entry, of_name, of_proc, of_way, proc_params, proc_result, query_params, result_args}
+use Rattle.type_rules.specs.Accesses.{Var, Access, find_var, access_kind, access_of, args_of, args_fit, alone, con_args_fit, count, has_args, is_bare, of_declared, of_entry, of_name, of_way, proc_params, proc_result, query_params, result_args}
 use Rattle.type_rules.specs.Typing.{is_plain_access}
 use Rattle.type_rules.specs.Sites.{Scope, Want, Site}
 use Rattle.type_rules.specs.ExprSites.{entry_way, way_from}
@@ -21,7 +21,7 @@ use Rattle.desugaring.specs.Expressions.{Uses, called_with}
 use Rattle.lawful.specs.Typed.{Along}
 use Rattle.lawful.proofs.Basics.{when_not}
 use Rattle.lawful.proofs.Places.{is_one_of}
-use Rattle.lawful_programs.specs.Valued.{Sound, IsWhole, AllWhole, VarsWhole, Seen, Valued, Callable, Ready, count_args, count_terms}
+use Rattle.lawful_programs.specs.Valued.{Sound, IsWhole, AllWhole, VarsWhole, Seen, Valued, Ready, count_args, count_terms}
 use Rattle.lawful_programs.proofs.Looks.{Looks, look}
 
 -- where an expression stands

@@ -1,19 +1,19 @@
 -- An access that begins at a root calls an operation or a query that has a number.
-use Rattle.std.proofs.Common.{◌≡◌, ◌+◌, ◌==◌, ◌&&◌, ℕ, suc, Bool, true, false, not, cond, List, [], ◌∷◌, ◌++◌, map, length, Option, Some, None, refl, ap, subst, sym, ◌∙◌, arith, inl, inr}
-use Rattle.std.specs.Prelude.{slice_get, option_map, option_and_then}
+use Rattle.std.proofs.Common.{◌≡◌, ◌+◌, ◌==◌, ◌&&◌, ℕ, Bool, true, false, not, cond, List, [], ◌∷◌, Some, None, refl, ap, subst, sym, ◌∙◌, arith, inl, inr}
+use Rattle.std.specs.Prelude.{slice_get, option_map}
 use Rattle.std.specs.List.{AllByRecursion}
 use Rattle.std.proofs.lemmas.Bool.{and_from, eq-eqb}
 use Rattle.rp_grammar.specs.Trees.{Ident, CrdtTree, StepTrees, DeclTree}
 use Rattle.rp_lang.specs.declared.op.OpKind.{OpKind}
 use Rattle.rp_lang.specs.declared.query.QueryKind.{QueryKind}
-use Rattle.rp_lang.specs.Exprs.{Ex, Exs, OpTerm, Query}
+use Rattle.rp_lang.specs.Exprs.{Exs, OpTerm, Query}
 use Rattle.rp_lang.specs.Formulas.{Holds}
 use Rattle.rp_lang.specs.Typing.{is_get}
 use Rattle.type_rules.specs.declared.kind.Kind.{Kind}
-use Rattle.type_rules.specs.Names.{Name, Names, Declared, same_name, text_of}
+use Rattle.type_rules.specs.Names.{Name, Declared, same_name, text_of}
 use Rattle.type_rules.specs.Kinds.{bool_kind}
-use Rattle.type_rules.specs.Paths.{Does, Member, Way, form_of, is_operation, is_question, member_of, members_of, walked}
-use Rattle.type_rules.specs.Accesses.{Access, access_kind, args_of, of_entry, of_way}
+use Rattle.type_rules.specs.Paths.{Does, Member, Way, form_of, is_operation, is_question, members_of, walked}
+use Rattle.type_rules.specs.Accesses.{access_kind, args_of, of_entry, of_way}
 use Rattle.type_rules.specs.Typing.{is_plain_access}
 use Rattle.type_rules.specs.Queries.{names_of}
 use Rattle.type_rules.specs.Rules.{misfit_in}
@@ -21,7 +21,7 @@ use Rattle.type_rules.specs.Faults.{IsLawful, IsOneOf}
 use Rattle.desugaring.specs.Objects.{OwnOp, OwnQuery, PathOp, PathQuery, Reached, Root, follow, is_op_at, is_query_at, keys_on, op_kind, ops_at, own_op, own_ops, own_queries, own_query, queries_at, query_kind, same_path}
 use Rattle.desugaring.specs.Tables.{Tables, tables_of}
 use Rattle.desugaring.specs.Values.{term, formula, append}
-use Rattle.desugaring.specs.Callees.{Called, Vars, located, member_at, of_access, on_root, op_called, query_called, question, value}
+use Rattle.desugaring.specs.Callees.{Vars, located, member_at, of_access, on_root, op_called, query_called, question, value}
 use Rattle.desugaring.specs.Expressions.{Uses, called_with}
 use Rattle.desugaring.proofs.Options.{map_is, then_is}
 use Rattle.lawful.specs.Typed.{Along}
@@ -30,7 +30,7 @@ use Rattle.lawful.proofs.Constructors.{entry_of}
 use Rattle.lawful.proofs.Members.{Leads, leads}
 use Rattle.lawful.proofs.RootCalled.{op_found, query_found, root_there}
 use Rattle.lawful.proofs.RootCalls.{located_there}
-use Rattle.lawful.proofs.Roots.{Reaches, follows}
+use Rattle.lawful.proofs.Roots.{follows}
 use Rattle.lawful_programs.specs.Valued.{AllWhole, IsWhole, Callable, Valued}
 use Rattle.lawful_programs.proofs.Wholes.{truth_whole}
 use Rattle.lawful_programs.proofs.Numbers.{in_map}
@@ -45,7 +45,7 @@ at_member P [] x all at = absurd at
 at_member P (y ∷ xs) x all (inl h) = subst P h all.0
 at_member P (y ∷ xs) x all (inr h) = at_member P xs x all.1 h
 
-form_whole : (t : Tables) (c : CrdtTree) → CrdtWhole t c → FormWhole t (form_of c)
+pub form_whole : (t : Tables) (c : CrdtTree) → CrdtWhole t c → FormWhole t (form_of c)
 form_whole t (CrdtTree.node at form) whole = whole
 
 -- # What is at the end of the path
@@ -125,12 +125,12 @@ op_callable : (tree : List DeclTree) (uses : Uses) (vs : Vars) (x : Ident) (step
 op_callable tree uses vs x steps name decl c m walk l acts =
     let t = tables_of tree in
     let n = names_of tree in
+    let number : 0 + l.k ≡ l.k = omega arith in
     let kind = op_there m.does acts in
     let own : OwnOp = record { name = m.name; kind = kind.0; args = m.args } in
     let op : PathOp = record { root = l.k; path = l.r.path; own = own } in
     let mine = among_parts own_op (members_of n (form_of l.r.crdt)) m own l.among (map_is (λ k. record { name = m.name; kind = k; args = m.args }) (op_kind m.does) kind.0 kind.1) in
     let here = in_map (λ o. record { root = l.k; path = l.r.path; own = o }) own (own_ops n (form_of l.r.crdt)) mine in
-    let number : 0 + l.k ≡ l.k = omega arith in
     let all = paths.on_root n (ops_at n) 0 l.k l.k t.roots l.root op number l.at
     (paths.on_path n (ops_at n) l.k [] l.root.crdt l.r.path l.r.crdt op (follows n steps l.root.crdt l.r l.reached) here) in
     let passes = and_from (l.k == l.k && same_path l.r.path l.r.path) (same_name m.name l.r.last)
@@ -166,13 +166,13 @@ query_callable : (tree : List DeclTree) (uses : Uses) (vs : Vars) (x : Ident) (s
 query_callable tree uses vs x steps name decl c m walk l acts =
     let t = tables_of tree in
     let n = names_of tree in
+    let number : 0 + l.k ≡ l.k = omega arith in
     let kind = query_there m.does acts in
     let own : OwnQuery = record { name = m.name; kind = kind.0; args = m.args; result = m.result } in
     let query : PathQuery = record { root = l.k; path = l.r.path; own = own } in
     let mine = among_parts own_query (members_of n (form_of l.r.crdt)) m own l.among
     (map_is (λ k. record { name = m.name; kind = k; args = m.args; result = m.result }) (query_kind m.does) kind.0 kind.1) in
     let here = in_map (λ o. record { root = l.k; path = l.r.path; own = o }) own (own_queries n (form_of l.r.crdt)) mine in
-    let number : 0 + l.k ≡ l.k = omega arith in
     let all = paths.on_root n (queries_at n) 0 l.k l.k t.roots l.root query number l.at
     (paths.on_path n (queries_at n) l.k [] l.root.crdt l.r.path l.r.crdt query (follows n steps l.root.crdt l.r l.reached) here) in
     let passes = and_from (l.k == l.k && same_path l.r.path l.r.path) (same_name m.name l.r.last)

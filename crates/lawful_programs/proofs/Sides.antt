@@ -12,7 +12,7 @@ use Rattle.type_rules.specs.Kinds.{bool_kind, is_open, is_unknown}
 use Rattle.type_rules.specs.Accesses.{Var}
 use Rattle.type_rules.specs.Typing.{type_of}
 use Rattle.type_rules.specs.Sites.{Scope, Want}
-use Rattle.type_rules.specs.ExprSites.{expr_sites, left_want, right_want, left_asked, left_side, right_side, word_args, word_of, before_kind, first_type}
+use Rattle.type_rules.specs.ExprSites.{expr_sites, left_want, right_want, left_asked, left_side, right_side, word_args, before_kind, first_type}
 use Rattle.type_rules.specs.Faults.{IsOneOf}
 use Rattle.desugaring.specs.Tables.{Tables}
 use Rattle.desugaring.specs.Callees.{Vars, vars_of}

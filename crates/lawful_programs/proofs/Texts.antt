@@ -1,28 +1,28 @@
 -- The tables of a lawful text are ready: what its expressions call is there.
-use Rattle.std.proofs.Common.{◌≡◌, ◌≤◌, ◌<◌, ◌+◌, ℕ, zero, suc, Bool, true, false, List, [], ◌∷◌, ◌++◌, map, length, Option, Some, None, refl, ap, subst, sym, ◌∙◌, arith, inl, inr}
+use Rattle.std.proofs.Common.{◌≡◌, ◌≤◌, ◌<◌, ◌+◌, ℕ, zero, suc, true, List, [], ◌∷◌, map, length, Some, None, refl, subst, sym, arith, inl, inr}
 use Rattle.std.specs.Prelude.{slice_get}
 use Rattle.std.specs.List.{AllByRecursion}
 use Rattle.rp_span.specs.declared.Span.{Span}
 use Rattle.rp_grammar.specs.Trees.{Ident, ConTree, StepTrees, QueryTree, ProcTree, DeclForm, DeclTree}
-use Rattle.type_rules.specs.Names.{Name, Names, Declared, Entry, same_name, text_of, con_entry, entries_from, entries_in, entry_named, types_in}
+use Rattle.type_rules.specs.Names.{Name, Declared, Entry, same_name, text_of, con_entry, entries_from, entries_in, types_in}
 use Rattle.type_rules.specs.Accesses.{of_entry}
 use Rattle.type_rules.specs.Queries.{names_of}
-use Rattle.type_rules.specs.TextSites.{Seen, nothing_seen, with_decl, decl_sites, inner_sites}
+use Rattle.type_rules.specs.TextSites.{Seen, nothing_seen, with_decl, decl_sites, inner_sites, used_from}
 use Rattle.type_rules.specs.Rules.{is_query, misfit_in}
 use Rattle.type_rules.specs.Faults.{IsLawful, IsOneOf}
 use Rattle.desugaring.specs.Appearances.{decl_kinds, kinds_from}
 use Rattle.desugaring.specs.Tables.{Tables, tables_of}
 use Rattle.desugaring.specs.Callees.{Vars}
 use Rattle.desugaring.specs.Expressions.{uses_before}
-use Rattle.desugaring.specs.Programs.{ProcDecl, procs_from}
+use Rattle.desugaring.specs.Programs.{procs_from}
 use Rattle.lawful.proofs.Behind.{decl_parts}
 use Rattle.lawful.proofs.Constructors.{entry_of, part_of, procs_are, tree_in}
 use Rattle.lawful.proofs.Distinct.{at_place}
-use Rattle.lawful.proofs.Entries.{IsConIn, IsConOf, con_entries, entries_are, entry_there}
+use Rattle.lawful.proofs.Entries.{IsConIn, con_entries, entries_are, entry_there}
 use Rattle.lawful.proofs.Places.{Lawfully, all_both, all_lawful}
-use Rattle.lawful.proofs.UsedQueries.{EntryIn, IsQueryIn, entries_in_text}
+use Rattle.lawful.proofs.UsedQueries.{EntryIn, entries_in_text}
 use Rattle.lawful_programs.specs.Valued.{Callable, Ready}
-use Rattle.lawful_programs.proofs.Bases.{Numbered, TypesBased, Within, within_left, within_right, text_based, text_numbered, text_within}
+use Rattle.lawful_programs.proofs.Bases.{Numbered, Within, within_left, within_right, text_based, text_numbered, text_within}
 use Rattle.lawful_programs.proofs.Calls.{con_callable, in_part, proc_callable}
 use Rattle.lawful_programs.proofs.Crdts.{CrdtWhole, crdt_whole}
 use Rattle.lawful_programs.proofs.Fields.{fields_whole}
@@ -32,11 +32,11 @@ use Rattle.lawful_programs.proofs.Uses.{query_callable}
 
 -- # Roots
 
-abbrev DeclaredWhole : Tables → Declared → Type 0
+abbrev pub DeclaredWhole : Tables → Declared → Type 0
 DeclaredWhole t (Declared.root c) = CrdtWhole t c
 DeclaredWhole t _ = Unit {0}
 
-abbrev EntryWhole : Tables → Entry → Type 0
+abbrev pub EntryWhole : Tables → Entry → Type 0
 EntryWhole t e = DeclaredWhole t e.what
 
 cons_pass : (t : Tables) (k type : ℕ) (cons : List ConTree) → AllByRecursion (EntryWhole t) (map (con_entry k type) cons)
@@ -54,20 +54,20 @@ roots_whole t numbered seen k type (DeclTree.node at form ∷ ds) laws within =
     let own = decl_kinds n k type form in
     let rest = kinds_from n (k + 1) next ds in
     all_both (EntryWhole t) (entries_in k type d) (entries_from (k + 1) next ds)
-    (own_whole t numbered k type at form p.0 (within_left t own rest within))
+    (own_whole (used_from n (k + 1) ds) t numbered k type at form p.0 (within_left t own rest within))
     (roots_whole t numbered (with_decl seen form) (k + 1) next ds p.1 (within_right t own rest within)) where
-      own_whole : {behind : List ℕ} (t : Tables) → Numbered t → (k type : ℕ) (at : Span) (form : DeclForm)
+      own_whole : (behind : List ℕ) (t : Tables) → Numbered t → (k type : ℕ) (at : Span) (form : DeclForm)
           → AllByRecursion (Lawfully t.names) (inner_sites t.names k behind form) → Within t (decl_kinds t.names k type form)
           → AllByRecursion (EntryWhole t) (entries_in k type (DeclTree.node at form))
-      own_whole t numbered k type at (DeclForm.id_type x) laws within = tt
-      own_whole t numbered k type at (DeclForm.opaque x) laws within = tt
-      own_whole t numbered k type at (DeclForm.datatype x cons) laws within = cons_pass t k type cons
-      own_whole t numbered k type at (DeclForm.crdt x c) laws within = (crdt_whole t numbered k c laws within, tt)
-      own_whole t numbered k type at (DeclForm.query (QueryTree.query x params result body)) laws within = (tt, tt)
-      own_whole t numbered k type at (DeclForm.invariant x e) laws within = tt
-      own_whole t numbered k type at (DeclForm.proc (ProcTree.proc x params result body)) laws within = (tt, tt)
+      own_whole behind t numbered k type at (DeclForm.id_type x) laws within = tt
+      own_whole behind t numbered k type at (DeclForm.opaque x) laws within = tt
+      own_whole behind t numbered k type at (DeclForm.datatype x cons) laws within = cons_pass t k type cons
+      own_whole behind t numbered k type at (DeclForm.crdt x c) laws within = (crdt_whole t numbered k c laws within, tt)
+      own_whole behind t numbered k type at (DeclForm.query (QueryTree.query x params result body)) laws within = (tt, tt)
+      own_whole behind t numbered k type at (DeclForm.invariant x e) laws within = tt
+      own_whole behind t numbered k type at (DeclForm.proc (ProcTree.proc x params result body)) laws within = (tt, tt)
 
-entries_whole : (tree : List DeclTree) → IsLawful tree → AllByRecursion (EntryWhole (tables_of tree)) (names_of tree).entries
+pub entries_whole : (tree : List DeclTree) → IsLawful tree → AllByRecursion (EntryWhole (tables_of tree)) (names_of tree).entries
 entries_whole tree lawful =
     subst (AllByRecursion (EntryWhole (tables_of tree))) (sym (entries_are tree))
     (roots_whole (tables_of tree) (text_numbered tree) nothing_seen 0 0 tree (all_lawful tree lawful) (text_within tree))

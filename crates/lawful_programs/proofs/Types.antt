@@ -1,19 +1,18 @@
 -- The type of an expression of a lawful place has a number.
-use Rattle.std.proofs.Common.{◌≡◌, ◌+◌, ◌-◌, ℕ, zero, suc, Bool, true, false, ◌&&◌, ◌||◌, ◌==◌, not, cond, List, [], ◌∷◌, Option, Some, None, refl, ap, subst, sym, ◌∙◌, arith}
-use Rattle.std.specs.Prelude.{nat_eq}
+use Rattle.std.proofs.Common.{◌≡◌, ◌+◌, ◌-◌, ℕ, zero, suc, Bool, true, false, ◌&&◌, ◌||◌, ◌==◌, not, cond, List, Option, Some, None, refl, ap, subst, sym, ◌∙◌, arith}
 use Rattle.std.proofs.lemmas.Bool.{and_parts, ne_eqb, not-false, not-true, or_parts, true≢false}
 use Rattle.rp_span.specs.declared.Span.{Span}
 use Rattle.rp_value.specs.declared.tables.Ty.TheVariants as ty
 use Rattle.rp_grammar.specs.declared.operator.CallWord.{CallWord}
 use Rattle.rp_grammar.specs.declared.operator.CallWord.TheVariants as called
-use Rattle.rp_grammar.specs.Trees.{Ident, ExprTree, ExprForm, AccessTree, StepTrees, ArgTrees}
+use Rattle.rp_grammar.specs.Trees.{ExprTree, ExprForm, AccessTree}
 use Rattle.type_rules.specs.declared.kind.Kind.{Kind}
 use Rattle.type_rules.specs.declared.kind.Base.{Base}
 use Rattle.type_rules.specs.declared.kind.Base.TheVariants as base
 use Rattle.type_rules.specs.Names.{Names}
 use Rattle.type_rules.specs.Kinds.{bool_kind, unknown_kind, plain_kind, maybe_of, is_any, is_unknown, is_open, inside}
 use Rattle.type_rules.specs.Accesses.{Var, access_kind, access_of}
-use Rattle.type_rules.specs.Typing.{type_of, form_type, none_kind, called_kind, asked_inside}
+use Rattle.type_rules.specs.Typing.{type_of, form_type, called_kind, asked_inside}
 use Rattle.type_rules.specs.Sites.{Scope, Want, Site}
 use Rattle.type_rules.specs.ExprSites.{expr_sites, held}
 use Rattle.type_rules.specs.Rules.{rule, rules, rule10, is_maybe_asked}
@@ -23,7 +22,7 @@ use Rattle.desugaring.specs.Tables.{Tables}
 use Rattle.lawful.proofs.Basics.{when_not}
 use Rattle.lawful.proofs.Forms.{one}
 use Rattle.lawful.proofs.Places.{is_one_of}
-use Rattle.lawful_programs.specs.Valued.{Sound, AllSound, IsWhole, VarsWhole, AskedWhole}
+use Rattle.lawful_programs.specs.Valued.{Sound, AllSound, IsWhole, AskedWhole}
 use Rattle.lawful_programs.proofs.Wholes.{bare_whole, truth_whole, int_whole, in_own_parts, maybe_whole, whole_not_any}
 
 -- # Expressions whose type is asked: `none`, in any number of `some`s

@@ -1,5 +1,5 @@
 -- The use of an earlier query becomes something.
-use Rattle.std.proofs.Common.{◌≡◌, ◌+◌, ◌<◌, ℕ, Bool, true, false, not, List, [], ◌∷◌, map, length, Option, Some, None, refl, ap, subst, sym, ◌∙◌, arith}
+use Rattle.std.proofs.Common.{◌≡◌, ◌<◌, ℕ, Bool, true, not, List, [], ◌∷◌, length, Some, None, refl, ap, subst, sym, ◌∙◌, arith}
 use Rattle.std.specs.Prelude.{slice_get}
 use Rattle.std.proofs.lemmas.Bool.{not-false}
 use Rattle.rp_span.specs.declared.Span.{Span}
@@ -7,20 +7,19 @@ use Rattle.rp_grammar.specs.Trees.{Ident, TypeTree, ParamTree, ExprTree, StepTre
 use Rattle.rp_lang.specs.Exprs.{Exs, no_ex, also_ex}
 use Rattle.type_rules.specs.declared.kind.Kind.{Kind}
 use Rattle.type_rules.specs.declared.role.Role.TheVariants as role
-use Rattle.type_rules.specs.Names.{Name, Names, Declared, param_name, param_type, text_of}
+use Rattle.type_rules.specs.Names.{Name, Names, Declared}
 use Rattle.type_rules.specs.Kinds.{bool_kind, fits, kind_of, param_kinds}
-use Rattle.type_rules.specs.Accesses.{Var, of_entry}
+use Rattle.type_rules.specs.Accesses.{of_entry}
 use Rattle.type_rules.specs.Typing.{flag, is_formula, is_plain, type_of}
 use Rattle.type_rules.specs.Queries.{declared_names, is_formula_decl, names_of, param_vars}
-use Rattle.type_rules.specs.Sites.{Scope}
 use Rattle.type_rules.specs.ExprSites.{asks, expr_sites}
-use Rattle.type_rules.specs.DeclSites.{param_sites, query_sites, scope_for}
+use Rattle.type_rules.specs.DeclSites.{param_sites, scope_for}
 use Rattle.type_rules.specs.Rules.{misfit_in, rule, rules, rule21}
 use Rattle.type_rules.specs.Faults.{IsLawful}
 use Rattle.desugaring.specs.Tables.{Tables, tables_of}
 use Rattle.desugaring.specs.Values.{Value, term, formula}
 use Rattle.desugaring.specs.Callees.{Vars, taking, use_of}
-use Rattle.desugaring.specs.Expressions.{body_value, uses_before, value, with_args}
+use Rattle.desugaring.specs.Expressions.{uses_before, with_args}
 use Rattle.desugaring.proofs.Found.{use_is}
 use Rattle.lawful.specs.Kept.{may_speak}
 use Rattle.lawful.specs.Typed.{Along}
@@ -32,7 +31,7 @@ use Rattle.lawful_programs.specs.Valued.{Sound, AllSound, AllWhole, IsWhole, Var
 use Rattle.lawful_programs.proofs.Wholes.{whole_not_any, written_whole}
 use Rattle.lawful_programs.proofs.Exprs.{valued}
 use Rattle.lawful_programs.proofs.Parts.{head}
-use Rattle.lawful_programs.proofs.Names.{Told, telling, told_at, plain_stays, vars_stay}
+use Rattle.lawful_programs.proofs.Names.{telling, told_at, plain_stays, vars_stay}
 use Rattle.lawful_programs.proofs.Sounds.{param_sites_whole, query_sound}
 
 -- # Parameters

@@ -1,8 +1,7 @@
 -- Types that have numbers, with all that stands inside their `Maybe`s.
-use Rattle.std.proofs.Common.{◌≡◌, ◌≤◌, ◌+◌, ℕ, zero, suc, Bool, true, false, ◌&&◌, List, [], ◌∷◌, ◌++◌, Option, Some, None, refl, ap, subst, sym, ◌∙◌, cond, arith, ◌⊎◌, inl, inr}
+use Rattle.std.proofs.Common.{◌≡◌, ◌≤◌, ℕ, zero, suc, true, false, List, [], ◌∷◌, ◌++◌, refl, ap, subst, sym, ◌∙◌, cond, arith, ◌⊎◌, inl, inr}
 use Rattle.std.specs.Prelude.{reverse}
 use Rattle.std.proofs.lemmas.Bool.{and_from, eq-eqb, ne_eqb}
-use Rattle.rp_value.specs.declared.tables.Ty.{Ty}
 use Rattle.rp_value.specs.declared.tables.Ty.TheVariants as ty
 use Rattle.rp_grammar.specs.Trees.{TypeTree}
 use Rattle.type_rules.specs.declared.kind.Kind.{Kind}
@@ -10,7 +9,7 @@ use Rattle.type_rules.specs.declared.kind.Base.{Base}
 use Rattle.type_rules.specs.declared.kind.Base.TheVariants as base
 use Rattle.type_rules.specs.declared.role.Role.{Role}
 use Rattle.type_rules.specs.Names.{Names}
-use Rattle.type_rules.specs.Kinds.{bool_kind, int_kind, operation_kind, plain_kind, maybe_of, is_any, same_base, kind_of}
+use Rattle.type_rules.specs.Kinds.{bool_kind, int_kind, plain_kind, is_any, same_base, kind_of}
 use Rattle.type_rules.specs.Sites.{Site}
 use Rattle.type_rules.specs.Rules.{rule, rules, rule02}
 use Rattle.type_rules.specs.Faults.{IsOneOf}
@@ -21,7 +20,7 @@ use Rattle.lawful.proofs.Basics.{known}
 use Rattle.lawful.proofs.Listed.{in_left, in_right}
 use Rattle.lawful.proofs.Places.{is_one_of}
 use Rattle.lawful.proofs.WrittenTypes.{kind_known, data_known, written_base}
-use Rattle.lawful_programs.specs.Valued.{BreaksNone, Sound, IsWhole}
+use Rattle.lawful_programs.specs.Valued.{Sound, IsWhole}
 
 -- # Numbers
 

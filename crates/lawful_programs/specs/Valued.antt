@@ -1,12 +1,12 @@
 -- What an expression of a lawful place becomes: that it becomes something, and where that is a plain term.
 use Rattle.std.specs.Prelude.{◌≡◌, ◌≤◌, ◌<◌, ℕ, ◌+◌, Bool, true, false, List, [], ◌∷◌, length, Option, Some, None}
 use Rattle.std.specs.List.{AllByRecursion}
-use Rattle.rp_grammar.specs.Trees.{Ident, ExprTrees, StepTrees, ArgTrees}
+use Rattle.rp_grammar.specs.Trees.{Ident, StepTrees, ArgTrees}
 use Rattle.rp_lang.specs.Exprs.{Ex, Exs, no_ex, also_ex}
 use Rattle.type_rules.specs.declared.kind.Kind.{Kind}
 use Rattle.type_rules.specs.Names.{Name, Names, Entry, text_of, entry_named}
 use Rattle.type_rules.specs.Kinds.{bool_kind}
-use Rattle.type_rules.specs.Accesses.{Var, Access, access_kind, args_of, of_entry, count}
+use Rattle.type_rules.specs.Accesses.{Var, access_kind, args_of, of_entry, count}
 use Rattle.type_rules.specs.Typing.{is_plain_access}
 use Rattle.type_rules.specs.Sites.{Site}
 use Rattle.type_rules.specs.Matches.{pattern_kinds}

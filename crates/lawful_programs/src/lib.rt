@@ -4,4 +4,4 @@
 
 mod laws;
 
-pub use laws::expressions_have_values;
+pub use laws::{expressions_have_values, invariants_have_values, roots_are_there, texts_are_ready};
