@@ -15,7 +15,7 @@ use Rattle.desugaring.proofs.Options.{then_is, map_is, both_is, three_is, term_i
 
 -- # Uses of queries
 
-abbrev UseIs : Tables → ℕ → ℕ → QueryTree → Exs → Type 0
+abbrev pub UseIs : Tables → ℕ → ℕ → QueryTree → Exs → Type 0
 UseIs t b k q es = uses_before t b k q es ≡ body_value t (uses_before t k) q es
 
 -- that of declaration n, or an earlier one
@@ -28,7 +28,7 @@ use_step : (t : Tables) (n k : ℕ) (q : QueryTree) (es : Exs) → k < suc n →
 use_step t n k q es lt true same earlier = ap (λ j. body_value t (uses_before t j) q es) (sym (eqb-true k n same))
 use_step t n k q es lt false same earlier = earlier (less n k lt same)
 
-use_is : (t : Tables) (b k : ℕ) (q : QueryTree) (es : Exs) → k < b → UseIs t b k q es
+pub use_is : (t : Tables) (b k : ℕ) (q : QueryTree) (es : Exs) → k < b → UseIs t b k q es
 use_is t zero k q es lt = absurd (omega (arith, lt))
 use_is t (suc n) k q es lt = use_step t n k q es lt (k == n) refl (use_is t n k q es)
 

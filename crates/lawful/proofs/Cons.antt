@@ -73,7 +73,7 @@ in_cases : (d k : Kind) (x : Name) (cs : List Case) (c : Con) → find (is_con k
 in_cases d k x [] c e = absurd cc
 in_cases d k x (c0 ∷ cs) c e = case_step d k x c0 cs c (same_kind d k) (same_name c0.name x) refl refl e (in_cases d k x cs c)
 
-abbrev Named : Names → Kind → Name → Con → Type 0
+abbrev pub Named : Names → Kind → Name → Con → Type 0
 Named n k x c = (case_fields (case_named (cases_of n k) x) ≡ c.fields) × ((cs : List Case) × (cases_of n k ≡ Some cs))
 
 of_cases : (n : Names) (d k : Kind) (x : Name) (c : Con) (o : Option (List Case)) → cases_of n d ≡ o → Found d k x (unwrap_or o []) c → Named n k x c
@@ -95,7 +95,7 @@ either_part Q test (a ∷ as_) bs c e here later =
       by_test Q test a as_ bs c true is e here rest = here (rw is e)
       by_test Q test a as_ bs c false is e here rest = rest e (λ h. here (rw is h))
 
-in_types : (n : Names) (k : Kind) (x : Name) (ds : List Kind) (c : Con) → find (is_con k x) (flat_map (cons_of n) ds) ≡ Some c → Named n k x c
+pub in_types : (n : Names) (k : Kind) (x : Name) (ds : List Kind) (c : Con) → find (is_con k x) (flat_map (cons_of n) ds) ≡ Some c → Named n k x c
 in_types n k x [] c e = absurd cc
 in_types n k x (d ∷ ds) c e =
     either_part (Named n k x c) (is_con k x) (cons_of n d) (flat_map (cons_of n) ds) c e

@@ -1,8 +1,8 @@
-mod Alike
-mod Basics
+pub mod Alike
+pub mod Basics
 mod Lifting
-mod Forms
-mod Calls
+pub mod Forms
+pub mod Calls
 mod World
 mod Words
 mod Binders
@@ -10,52 +10,52 @@ mod Sides
 mod Accessed
 mod Main
 mod Readless
-mod Cons
-mod Distinct
-mod Blocks
-mod Arms
-mod Places
+pub mod Cons
+pub mod Distinct
+pub mod Blocks
+pub mod Arms
+pub mod Places
 mod Bools
-mod Atoms
-mod Entries
-mod Constructors
-mod Roots
-mod RootCalls
-mod RootCalled
+pub mod Atoms
+pub mod Entries
+pub mod Constructors
+pub mod Roots
+pub mod RootCalls
+pub mod RootCalled
 mod Called
 mod Numbers
-mod TextNumbers
-mod Listed
-mod WrittenTypes
-mod Inside
-mod Behind
+pub mod TextNumbers
+pub mod Listed
+pub mod WrittenTypes
+pub mod Inside
+pub mod Behind
 mod Quiet
-mod UsedQueries
+pub mod UsedQueries
 mod Tables
 mod Ends
-mod Results
+pub mod Results
 mod SlotLaws
 mod Slotted
-mod Flows
+pub mod Flows
 mod StmtRows
 mod StmtFrames
 mod StmtForms
 mod StmtTypes
-mod ProcFlows
+pub mod ProcFlows
 mod Invariants
 mod Within
-mod InsideStmts
-mod ProcPlaces
+pub mod InsideStmts
+pub mod ProcPlaces
 mod ProcTypes
-mod Speaking
-mod Ordinary
-mod DataFields
+pub mod Speaking
+pub mod Ordinary
+pub mod DataFields
 mod SlotTypes
-mod Procedures
+pub mod Procedures
 mod RootOps
-mod Maybes
+pub mod Maybes
 mod RootQueries
-mod Closed
+pub mod Closed
 mod ClosedStmts
 mod FirstCons
 mod Numbering
@@ -67,4 +67,4 @@ mod InvNames
 mod WellFormed
 mod Crdts
 mod ProcHeads
-mod Members
+pub mod Members

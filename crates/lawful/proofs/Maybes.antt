@@ -59,7 +59,7 @@ made_there t p table j d i z at is =
 not_open : (k : Kind) → is_any k.base ≡ false → (is_open k.base && k.maybes == 0) ≡ false
 not_open k e = ap (λ b. b && k.maybes == 0) (or_parts (is_unknown k.base) (is_open k.base) e).1
 
-maybe_there : (n : Names) (k : Kind) → is_any k.base ≡ false → cases_of n (record { base = k.base; maybes = suc k.maybes }) ≡ Some (maybe_cases k)
+pub maybe_there : (n : Names) (k : Kind) → is_any k.base ≡ false → cases_of n (record { base = k.base; maybes = suc k.maybes }) ≡ Some (maybe_cases k)
 maybe_there n k e = ap (λ b. cond b None (Some (maybe_cases k))) (not_open k e)
 
 bare_none : (t : Tables) (of : Kind) (made : ConDecl) → con_decl t (record { name = codes "none"; of = of; fields = [] }) ≡ Some made

@@ -22,13 +22,13 @@ use Rattle.lawful.proofs.Results.{procs_there}
 use Rattle.lawful.proofs.ProcFlows.{all_pairs}
 
 -- the procedure stands where its number says
-abbrev StandsIn : ℕ → List DeclTree → ProcDecl → Type 0
+abbrev pub StandsIn : ℕ → List DeclTree → ProcDecl → Type 0
 StandsIn k ds d = (i : ℕ) × (k + i ≡ d.decl) × (slice_get ds i ≡ Some (DeclTree.node d.at (DeclForm.proc d.tree)))
 
 one_further : (k : ℕ) (first : DeclTree) (ds : List DeclTree) (d : ProcDecl) → StandsIn (k + 1) ds d → StandsIn k (first ∷ ds) d
 one_further k first ds d is = let number : k + suc is.0 ≡ d.decl = omega (arith, is.1) in (suc is.0, number, is.2)
 
-procs_stand : (k : ℕ) (ds : List DeclTree) → AllByRecursion (StandsIn k ds) (procs_from k ds)
+pub procs_stand : (k : ℕ) (ds : List DeclTree) → AllByRecursion (StandsIn k ds) (procs_from k ds)
 procs_stand k [] = tt
 procs_stand k (DeclTree.node at (DeclForm.proc q) ∷ ds) =
     let number : k + 0 ≡ k = omega arith in
@@ -46,7 +46,7 @@ procs_stand k (DeclTree.node at (DeclForm.query q) ∷ ds) =
 procs_stand k (DeclTree.node at (DeclForm.invariant x e) ∷ ds) =
     all_changed (StandsIn (k + 1) ds) _ (procs_from (k + 1) ds) (one_further k _ ds) (procs_stand (k + 1) ds)
 
-abbrev LawsOf : Names → ProcDecl → Type 0
+abbrev pub LawsOf : Names → ProcDecl → Type 0
 LawsOf n d = AllByRecursion (Lawfully n) (proc_sites n d.decl d.tree)
 
 abbrev NumbersOf : Names → ProcDecl → Type 0

@@ -38,14 +38,14 @@ use Rattle.lawful.proofs.RootCalls.{located_there, path_one, OnRoot, on_roots, I
 abbrev root_part : Entry → Option Root
 root_part e = root_in e.name e.what
 
-root_of_entry : (name : Name) (w : Declared) (root : Root) → root_in name w ≡ Some root → (w ≡ Declared.root root.crdt) × (name ≡ root.name)
+pub root_of_entry : (name : Name) (w : Declared) (root : Root) → root_in name w ≡ Some root → (w ≡ Declared.root root.crdt) × (name ≡ root.name)
 root_of_entry name (Declared.root c) root e = (ap (λ z. Declared.root z.crdt) (one e), ap (λ z. z.name) (one e))
 root_of_entry name (Declared.query q) root e = absurd cc
 root_of_entry name (Declared.proc q) root e = absurd cc
 root_of_entry name (Declared.con type c) root e = absurd cc
 
 -- the root of the name is that of its entry
-root_there : (tree : List DeclTree) → IsLawful tree → (i : ℕ) (name : Name) (decl : ℕ) (c : CrdtTree)
+pub root_there : (tree : List DeclTree) → IsLawful tree → (i : ℕ) (name : Name) (decl : ℕ) (c : CrdtTree)
     → slice_get (names_of tree).entries i ≡ Some (entry_of name decl (Declared.root c))
     → (k : ℕ) (root : Root) → slice_get (tables_of tree).roots k ≡ Some root → same_name root.name name ≡ true → root.crdt ≡ c
 root_there tree lawful i name decl c there k root at named =
@@ -77,7 +77,7 @@ op_types t o d e =
 same_root : (roots : List Root) (i k : ℕ) (a b : Root) → i ≡ k → slice_get roots i ≡ Some a → slice_get roots k ≡ Some b → a ≡ b
 same_root roots i k a b same is also = one (sym is ∙ ap (slice_get roots) same ∙ also)
 
-op_found : (tree : List DeclTree) (m : Member) (k : ℕ) (r : Reached) (root : Root) (steps : StepTrees) → slice_get (tables_of tree).roots k ≡ Some root
+pub op_found : (tree : List DeclTree) (m : Member) (k : ℕ) (r : Reached) (root : Root) (steps : StepTrees) → slice_get (tables_of tree).roots k ≡ Some root
     → follow (names_of tree) steps root.crdt ≡ Some r → member_of (names_of tree) r.crdt r.last ≡ Some m
     → (i : ℕ) (o : PathOp) → slice_get (tables_of tree).ops i ≡ Some o → is_op_at k r o ≡ true
     → (o.path ≡ r.path) × (o.own.args ≡ m.args) × (m.result ≡ operation_kind)
@@ -126,7 +126,7 @@ op_gives tree p words table name decl c x steps m k r root at same walk reached 
 
 -- # Queries
 
-query_found : (tree : List DeclTree) (m : Member) (k : ℕ) (r : Reached) (root : Root) (steps : StepTrees) → slice_get (tables_of tree).roots k ≡ Some root
+pub query_found : (tree : List DeclTree) (m : Member) (k : ℕ) (r : Reached) (root : Root) (steps : StepTrees) → slice_get (tables_of tree).roots k ≡ Some root
     → follow (names_of tree) steps root.crdt ≡ Some r → member_of (names_of tree) r.crdt r.last ≡ Some m
     → (i : ℕ) (o : PathQuery) → slice_get (tables_of tree).queries i ≡ Some o → is_query_at k r o ≡ true
     → (o.path ≡ r.path) × (o.own.args ≡ m.args) × (o.own.result ≡ m.result) × (is_get o.own.kind ≡ false → m.result ≡ bool_kind)

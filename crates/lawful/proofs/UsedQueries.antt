@@ -41,16 +41,16 @@ use Rattle.lawful.proofs.WrittenTypes.{written_known}
 
 -- # Queries stand where their entries say
 
-abbrev IsQueryIn : ℕ → List DeclTree → ℕ → Declared → Type 0
+abbrev pub IsQueryIn : ℕ → List DeclTree → ℕ → Declared → Type 0
 IsQueryIn k ds decl (Declared.query q) = (i : ℕ) × (at : Span) × (k + i ≡ decl) × (slice_get ds i ≡ Some (DeclTree.node at (DeclForm.query q)))
 IsQueryIn k ds decl (Declared.root c) = Unit {0}
 IsQueryIn k ds decl (Declared.proc p) = Unit {0}
 IsQueryIn k ds decl (Declared.con type c) = Unit {0}
 
-abbrev EntryIn : ℕ → List DeclTree → Entry → Type 0
+abbrev pub EntryIn : ℕ → List DeclTree → Entry → Type 0
 EntryIn k ds e = IsQueryIn k ds e.decl e.what
 
-one_further : (k : ℕ) (d : DeclTree) (ds : List DeclTree) (decl : ℕ) (what : Declared) → IsQueryIn (k + 1) ds decl what → IsQueryIn k (d ∷ ds) decl what
+pub one_further : (k : ℕ) (d : DeclTree) (ds : List DeclTree) (decl : ℕ) (what : Declared) → IsQueryIn (k + 1) ds decl what → IsQueryIn k (d ∷ ds) decl what
 one_further k d ds decl (Declared.query q) is =
     let number : k + suc is.0 ≡ decl = omega (arith, is.2) in (suc is.0, is.1, number, is.3)
 one_further k d ds decl (Declared.root c) is = tt
@@ -80,15 +80,15 @@ all_in k type (DeclTree.node at form ∷ ds) =
     all_both (EntryIn k (d ∷ ds)) (entries_in k type d) later (first_in k type at form ds)
     (all_changed (EntryIn (k + 1) ds) (EntryIn k (d ∷ ds)) later (λ e is. one_further k d ds e.decl e.what is) (all_in (k + 1) (type + length (types_in k d)) ds))
 
-entries_in_text : (tree : List DeclTree) → AllByRecursion (EntryIn 0 tree) (names_of tree).entries
+pub entries_in_text : (tree : List DeclTree) → AllByRecursion (EntryIn 0 tree) (names_of tree).entries
 entries_in_text tree = subst (AllByRecursion (EntryIn 0 tree)) (sym (entries_are tree)) (all_in 0 0 tree)
 
 -- # Types of parameters and results are known
 
-abbrev Stands : List DeclTree → ℕ → Span → QueryTree → Type 0
+abbrev pub Stands : List DeclTree → ℕ → Span → QueryTree → Type 0
 Stands tree m at q = slice_get tree m ≡ Some (DeclTree.node at (DeclForm.query q))
 
-site_known : (tree : List DeclTree) (m : ℕ) (at : Span) (q : QueryTree) → Stands tree m at q → (r : Role) (written : TypeTree)
+pub site_known : (tree : List DeclTree) (m : ℕ) (at : Span) (q : QueryTree) → Stands tree m at q → (r : Role) (written : TypeTree)
     → IsOneOf (Site.written m r written) (query_sites (names_of tree) m true q) → Lawfully (names_of tree) (Site.written m r written)
     → IsKnown (tables_of tree) (kind_of (names_of tree) written)
 site_known tree m at q there r written among law =
@@ -97,7 +97,7 @@ site_known tree m at q there r written among law =
     (λ c part before. in_flat (site_kinds n) (query_sites n m true q) (Site.written m r written) c among part)
     (law (rule 2 rule02) (is_one_of rules 1 _ refl))
 
-params_known : (tree : List DeclTree) (m : ℕ) (at : Span) (q : QueryTree) → Stands tree m at q → (params : List ParamTree)
+pub params_known : (tree : List DeclTree) (m : ℕ) (at : Span) (q : QueryTree) → Stands tree m at q → (params : List ParamTree)
     → AllByRecursion (Lawfully (names_of tree)) (written_all m role.QueryParam params)
     → ((s : Site) → IsOneOf s (written_all m role.QueryParam params) → IsOneOf s (query_sites (names_of tree) m true q))
     → AllByRecursion (IsKnown (tables_of tree)) (param_kinds (names_of tree) params)
@@ -113,12 +113,12 @@ each_known t (k ∷ ks) all =
     let r = each_known t ks all.1 in
     (all.0.0 ∷ r.0, both_is ◌∷◌ (ty_of t k) (each (ty_of t) ks) all.0.0 r.0 all.0.1 r.1)
 
-record IsQueryKnown (tree : List DeclTree) (params : List ParamTree) (written : TypeTree) : Type 0 where
+pub record IsQueryKnown (tree : List DeclTree) (params : List ParamTree) (written : TypeTree) : Type 0 where
   pub tys : List Ty
   pub are : each (ty_of (tables_of tree)) (param_kinds (names_of tree) params) ≡ Some tys
   pub result : IsKnown (tables_of tree) (kind_of (names_of tree) written)
 
-query_known : (tree : List DeclTree) → IsLawful tree → (m : ℕ) (at : Span) (name : Ident) (params : List ParamTree) (result : TypeTree) (body : ExprTree)
+pub query_known : (tree : List DeclTree) → IsLawful tree → (m : ℕ) (at : Span) (name : Ident) (params : List ParamTree) (result : TypeTree) (body : ExprTree)
     → Stands tree m at (QueryTree.query name params result body) → IsQueryKnown tree params result
 query_known tree lawful m at name params result body there =
     let n = names_of tree in

@@ -89,7 +89,7 @@ own_parts n before e type cons last sorted =
     (subst (λ s. IsOneOf own (sort_parts n inner (length before) s)) (sym sorted)
     (in_right own (flat_map (with_maybes inner) (field_kinds n cons)) (plain_kind (base.Declared (length before)) ∷ []) (inl same)))
 
-parts_there : (n : Names) (late : List TypeEntry) (type : ℕ) (entry : TypeEntry) (cons : List ConTree) → slice_get (reverse late) type ≡ Some entry
+pub parts_there : (n : Names) (late : List TypeEntry) (type : ℕ) (entry : TypeEntry) (cons : List ConTree) → slice_get (reverse late) type ≡ Some entry
     → entry.sort ≡ TypeSort.datatype cons → IsOneOf (plain_kind (base.Declared type)) (base_parts n late (base.Declared type))
 parts_there n [] type entry cons at sorted = absurd cc
 parts_there n (e ∷ before) type entry cons at sorted =
@@ -113,20 +113,20 @@ parts_there n (e ∷ before) type entry cons at sorted =
 
 -- # A kind of a known base is known where its parts are among the datatypes
 
-data_known : (t : Tables) (k : Kind) → same_kind k k ≡ true → IsOneOf k t.datatypes → (of : Ty) × (datatype_ty t k ≡ Some of)
+pub data_known : (t : Tables) (k : Kind) → same_kind k k ≡ true → IsOneOf k t.datatypes → (of : Ty) × (datatype_ty t k ≡ Some of)
 data_known t k same at = let r = position_there (same_kind k) k t.datatypes same at in (ty.Datatype r.0, ap (option_map ty.Datatype) r.1)
 
-sort_known : (t : Tables) (type : ℕ) (sort : TypeSort) → ((cons : List ConTree) → sort ≡ TypeSort.datatype cons → IsOneOf (plain_kind (base.Declared type)) t.datatypes)
+pub sort_known : (t : Tables) (type : ℕ) (sort : TypeSort) → ((cons : List ConTree) → sort ≡ TypeSort.datatype cons → IsOneOf (plain_kind (base.Declared type)) t.datatypes)
     → (of : Ty) × (sort_ty t type sort ≡ Some of)
 sort_known t type TypeSort.id_type within = (ty.Atom (atom_number t.names type), refl)
 sort_known t type TypeSort.opaque within = (ty.Atom (atom_number t.names type), refl)
 sort_known t type (TypeSort.datatype cons) within =
     data_known t (plain_kind (base.Declared type)) (and_from (type == type) (0 == 0) (eq-eqb type type refl) refl) (within cons refl)
 
-abbrev PartsWithin : Tables → Kind → Type 0
+abbrev pub PartsWithin : Tables → Kind → Type 0
 PartsWithin t k = (c : Kind) → IsOneOf c (parts t.names k) → IsOneOf c t.datatypes
 
-base_known : (t : Tables) (b : Base) → IsBase t.names b → PartsWithin t (plain_kind b) → IsOneOf bool_kind t.datatypes → IsKnown t (plain_kind b)
+pub base_known : (t : Tables) (b : Base) → IsBase t.names b → PartsWithin t (plain_kind b) → IsOneOf bool_kind t.datatypes → IsKnown t (plain_kind b)
 base_known t base.Bool is within bool = data_known t bool_kind refl bool
 base_known t base.Int is within bool = (ty.Int, refl)
 base_known t base.Text is within bool = (ty.Str, refl)
@@ -144,7 +144,7 @@ base_known t base.Outcome is within bool = (ty.Outcome, refl)
 base_known t base.Unknown is within bool = absurd is
 base_known t base.Open is within bool = absurd is
 
-kind_known : (t : Tables) (b : Base) (m : ℕ) → IsBase t.names b → PartsWithin t (record { base = b; maybes = m }) → IsOneOf bool_kind t.datatypes
+pub kind_known : (t : Tables) (b : Base) (m : ℕ) → IsBase t.names b → PartsWithin t (record { base = b; maybes = m }) → IsOneOf bool_kind t.datatypes
     → IsKnown t (record { base = b; maybes = m })
 kind_known t b zero is within bool = base_known t b is within bool
 kind_known t b (suc m) is within bool =
