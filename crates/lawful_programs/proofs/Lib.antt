@@ -18,3 +18,7 @@ mod Uses
 mod Names
 mod Invariants
 mod Tables
+mod Flow
+mod Sights
+mod Stmts
+mod Walk
