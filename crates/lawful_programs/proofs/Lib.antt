@@ -22,3 +22,5 @@ mod Flow
 mod Sights
 mod Stmts
 mod Walk
+mod StmtWalk
+mod Datatypes

@@ -86,11 +86,11 @@ acts_there (Access.procedure p) e fit some = absurd cc
 acts_there (Access.returned p) e fit some = absurd cc
 
 -- a result that is given is asked
-result_there : (o : Option Kind) → same_truth true (is_there o) ≡ true → (k : Kind) × (o ≡ Some k)
+pub result_there : (o : Option Kind) → same_truth true (is_there o) ≡ true → (k : Kind) × (o ≡ Some k)
 result_there None e = absurd cc
 result_there (Some k) e = (k, refl)
 
-behind_whole : (t : Tables) → IsOneOf bool_kind t.datatypes → (f : Frame) (g : Sight) (last : Bool) (vs : Vars) (next : ℕ) (s : StmtTree) → StandsWhole t vs
+pub behind_whole : (t : Tables) → IsOneOf bool_kind t.datatypes → (f : Frame) (g : Sight) (last : Bool) (vs : Vars) (next : ℕ) (s : StmtTree) → StandsWhole t vs
     → AllSound t (stmt_sites t.names f g last s) → StandsWhole t (behind t.names vs next s)
 behind_whole t bool f g last vs next (StmtTree.node at (StmtForm.var x ty e)) whole sound =
     all_both (StandWhole t) vs (stand (text_of x) (kind_of t.names ty) (Slot next) ∷ []) whole ((written_whole t bool f.decl _ ty sound.1.0, (next, refl)), tt)

@@ -7,11 +7,11 @@ use Rattle.type_rules.specs.declared.kind.Kind.{Kind}
 use Rattle.type_rules.specs.Names.{Name, text_of, param_type}
 use Rattle.type_rules.specs.Kinds.{kind_of}
 use Rattle.type_rules.specs.Paths.{Way, stepped, key_kind}
-use Rattle.type_rules.specs.Accesses.{Var, access_of, args_of, count, find_var}
+use Rattle.type_rules.specs.Accesses.{Var, count, find_var}
 use Rattle.type_rules.specs.Typing.{type_of}
 use Rattle.type_rules.specs.Sites.{Scope, Want, Site}
 use Rattle.type_rules.specs.Matches.{bound_sites, bound_var, first_kind, other_kinds, pattern_kinds, pattern_name, pattern_vars}
-use Rattle.type_rules.specs.ExprSites.{arg_sites, argument, arm_sites, bool_operand, bool_whole, expr_sites, form_sites, given_sites, held, int_operand, key_sites, left_want, matched, operand_sites, pattern_sites, quantified_var, right_want, step_sites, way_from, with_pattern, with_var, word_args}
+use Rattle.type_rules.specs.ExprSites.{access_sites, arg_sites, argument, arm_sites, bool_operand, bool_whole, expr_sites, form_sites, given_sites, held, int_operand, key_sites, left_want, matched, operand_sites, pattern_sites, quantified_var, right_want, step_sites, way_from, with_pattern, with_var, word_args}
 use Rattle.type_rules.specs.Rules.{is_datatype_kind, rule, rules, rule14}
 use Rattle.desugaring.specs.Tables.{Tables}
 use Rattle.desugaring.specs.Callees.{Vars}
@@ -101,22 +101,11 @@ module _ (t : Tables) (b : ℕ) (uses : Uses) (ready : Ready t b uses) where
         join t (expr_sites t.names sc matched e) _ (wholes sc vs matched e there tt p.0)
         (tt, arm_wholes sc vs k [] arms there whole (matched_there t sc matched e refl p.0) p.1.1)
     form_wholes sc vs w at (ExprForm.access (AccessTree.path x steps args)) there asked sound =
-        access_wholes sc vs x steps args there (at_place t sc w at (AccessTree.path x steps args) sound.0) sound.1
-
-    pub access_wholes : (sc : Scope) (vs : Vars) (x : Ident) (steps : StepTrees) (args : ArgTrees) → In t b sc vs → AccessKept t.names sc (AccessTree.path x steps args)
-        → AllSound t (step_sites t.names sc (way_from t.names (find_var sc.vars (text_of x)) x) steps ++ given_sites t.names sc (args_of t.names (access_of t.names sc.vars (AccessTree.path x steps args))) args)
-        → Wholes t (step_sites t.names sc (way_from t.names (find_var sc.vars (text_of x)) x) steps ++ given_sites t.names sc (args_of t.names (access_of t.names sc.vars (AccessTree.path x steps args))) args)
-    access_wholes sc vs x StepTrees.no_steps args there kept sound =
-        let r = reached t b uses ready sc vs there x StepTrees.no_steps args kept in
-        subst (λ ks. Wholes t (given_sites t.names sc ks args)) r.args_are
-        (given_wholes sc vs r.c.args args there r.args_whole r.many (subst (λ ks. AllSound t (given_sites t.names sc ks args)) (sym r.args_are) sound))
-    access_wholes sc vs x (StepTrees.more_steps s steps) args there kept sound =
         let n = t.names in
-        let whole = StepTrees.more_steps s steps in
         let way = way_from n (find_var sc.vars (text_of x)) x in
-        let r = reached t b uses ready sc vs there x whole args kept in
-        let p = all_parts (Sound t) (step_sites n sc way whole) _ sound in
-        join t (step_sites n sc way whole) _ (step_wholes sc vs way r.c.keys whole there r.along r.keys_whole p.0)
+        let r = reached t b uses ready sc vs there x steps args (at_place t sc w at (AccessTree.path x steps args) sound.0) in
+        let p = all_parts (Sound t) (step_sites n sc way steps) _ sound.1 in
+        join t (step_sites n sc way steps) _ (step_wholes sc vs way r.c.keys steps there r.along r.keys_whole p.0)
         (subst (λ ks. Wholes t (given_sites n sc ks args)) r.args_are
         (given_wholes sc vs r.c.args args there r.args_whole r.many (subst (λ ks. AllSound t (given_sites n sc ks args)) (sym r.args_are) p.1)))
 
@@ -166,3 +155,14 @@ module _ (t : Tables) (b : ℕ) (uses : Uses) (ready : Ready t b uses) where
         (wholes (with_pattern n sc k q) (under_pattern n vs k q) bool_whole e
         (in_pattern t b sc vs k q (ready.fields k (pattern_name q) whole) arm.many there) (truth_whole t ready.bool) inner.1))
         (arm_wholes sc vs k (pattern_name q ∷ before) arms there whole data_ outer.1)
+
+  pub access_wholes : (sc : Scope) (vs : Vars) (x : Ident) (steps : StepTrees) (args : ArgTrees) → In t b sc vs → AccessKept t.names sc (AccessTree.path x steps args)
+      → AllSound t (access_sites t.names sc (AccessTree.path x steps args)) → Wholes t (access_sites t.names sc (AccessTree.path x steps args))
+  access_wholes sc vs x steps args there kept sound =
+      let n = t.names in
+      let way = way_from n (find_var sc.vars (text_of x)) x in
+      let r = reached t b uses ready sc vs there x steps args kept in
+      let p = all_parts (Sound t) (step_sites n sc way steps) _ sound in
+      join t (step_sites n sc way steps) _ (step_wholes sc vs way r.c.keys steps there r.along r.keys_whole p.0)
+      (subst (λ ks. Wholes t (given_sites n sc ks args)) r.args_are
+      (given_wholes sc vs r.c.args args there r.args_whole r.many (subst (λ ks. AllSound t (given_sites n sc ks args)) (sym r.args_are) p.1)))

@@ -1,3 +1,5 @@
+use Rattle.lawful_programs.proofs.Datatypes.{con_table_there, once_whole, sites_whole, crdt_parts}
+use Rattle.lawful_programs.proofs.StmtWalk.{block_wholes}
 use Rattle.lawful_programs.proofs.Walk.{wholes}
 use Rattle.lawful_programs.proofs.Stmts.{block_there}
 use Rattle.lawful_programs.proofs.Flow.{block_after}
