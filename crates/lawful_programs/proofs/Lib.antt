@@ -24,3 +24,5 @@ mod Stmts
 mod Walk
 mod StmtWalk
 mod Datatypes
+mod Decls
+mod Programs

@@ -63,7 +63,7 @@ declared_here t b f g set vs next x ty whole here = record {
   whole = all_both (StandWhole t) vs (stand (text_of x) (kind_of t.names ty) (Slot next) ∷ []) here.whole ((whole, (next, refl)), tt);
 }
 
-slotted_whole : (t : Tables) (vs : Vars) (next : ℕ) (xs : List Ident) (ks : List Kind) → StandsWhole t vs → AllWhole t ks → length ks ≡ length xs
+pub slotted_whole : (t : Tables) (vs : Vars) (next : ℕ) (xs : List Ident) (ks : List Kind) → StandsWhole t vs → AllWhole t ks → length ks ≡ length xs
     → StandsWhole t (slotted vs next xs ks)
 slotted_whole t vs next [] ks stands whole many = stands
 slotted_whole t vs next (x ∷ xs) [] stands whole many = absurd (omega (arith, many))
