@@ -1,21 +1,20 @@
 -- Each datatype of a lawful text has a number with all its fields: the table of constructors is there.
-use Rattle.std.proofs.Common.{◌≡◌, ◌≤◌, ◌+◌, ◌==◌, ℕ, zero, suc, Bool, true, false, not, cond, List, [], ◌∷◌, ◌++◌, map, length, Option, Some, None, refl, ap, subst, sym, ◌∙◌, arith, inl, inr}
-use Rattle.std.specs.Prelude.{slice_get, reverse, flat_map, unwrap_or, option_map}
+use Rattle.std.proofs.Common.{◌≡◌, ◌≤◌, ℕ, zero, suc, Bool, true, false, not, cond, List, [], ◌∷◌, ◌++◌, map, length, Option, Some, None, refl, ap, subst, sym, ◌∙◌, arith, inl, inr}
+use Rattle.std.specs.Prelude.{slice_get, reverse, flat_map, unwrap_or}
 use Rattle.std.specs.List.{AllByRecursion, filter}
-use Rattle.std.proofs.lemmas.Grind.{flat_map-append, reverse_onto}
+use Rattle.std.proofs.lemmas.Grind.{reverse_onto}
 use Rattle.std.proofs.lemmas.List.{append_assoc, length-reverse, reverse-reverse}
-use Rattle.rp_span.specs.declared.Span.{Span}
 use Rattle.rp_value.specs.declared.tables.ConDecl.{ConDecl}
 use Rattle.rp_value.specs.declared.tables.ConTable.{ConTable}
-use Rattle.rp_grammar.specs.Trees.{ConTree, CrdtTree, CrdtForm, FieldTree, FieldTrees, ExprTree, ExprForm, DeclForm, DeclTree}
+use Rattle.rp_grammar.specs.Trees.{CrdtTree, CrdtForm, FieldTree, FieldTrees, ExprTree, ExprForm}
 use Rattle.type_rules.specs.declared.kind.Kind.{Kind}
 use Rattle.type_rules.specs.declared.kind.Base.{Base}
 use Rattle.type_rules.specs.declared.kind.Base.TheVariants as base
-use Rattle.type_rules.specs.Names.{Names, TypeEntry, TypeSort}
-use Rattle.type_rules.specs.Kinds.{bool_kind, kind_of, maybe_of, plain_kind}
+use Rattle.type_rules.specs.Names.{TypeEntry, TypeSort}
+use Rattle.type_rules.specs.Kinds.{kind_of, plain_kind}
 use Rattle.type_rules.specs.Sites.{Site}
 use Rattle.type_rules.specs.Matches.{Case, cases_of}
-use Rattle.type_rules.specs.Faults.{IsLawful, IsOneOf}
+use Rattle.type_rules.specs.Faults.{IsOneOf}
 use Rattle.desugaring.specs.Parts.{each}
 use Rattle.desugaring.specs.Appearances.{base_parts, crdt_kinds, each_once, field_kinds, fields_kinds, form_kinds, is_declared, maybes_of, parts, same_kind, site_kinds, sort_parts, with_maybes}
 use Rattle.desugaring.specs.Tables.{Con, Tables, con_decl, con_of, con_table, cons, cons_of, datatype_number, table_with, ty_of}
@@ -29,7 +28,6 @@ use Rattle.lawful_programs.proofs.Bases.{EntryBased, Numbered, TypesBased, base_
 use Rattle.lawful_programs.proofs.Crdts.{CrdtWhole, FieldsWhole, FormWhole}
 use Rattle.lawful_programs.proofs.Fields.{CaseWhole, CasesWhole, cases_whole}
 use Rattle.lawful_programs.proofs.Invariants.{each_total}
-use Rattle.lawful_programs.proofs.Roots.{at_member}
 use Rattle.lawful_programs.proofs.Tables.{tys_there}
 use Rattle.lawful_programs.proofs.Walk.{PlaceWhole, Wholes}
 

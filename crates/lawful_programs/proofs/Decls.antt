@@ -1,14 +1,12 @@
 -- What the declarations of a lawful text speak of has numbers, and its procedures become something.
-use Rattle.std.proofs.Common.{◌≡◌, ◌+◌, ℕ, zero, suc, Bool, true, false, List, [], ◌∷◌, ◌++◌, map, length, Option, Some, None, refl, ap, subst, sym, ◌∙◌, arith}
+use Rattle.std.proofs.Common.{◌≡◌, ◌+◌, ℕ, zero, suc, true, List, [], ◌∷◌, ◌++◌, map, length, Option, Some, None, refl, ap, subst, sym, arith}
 use Rattle.std.specs.Prelude.{slice_get, flat_map, option_map}
-use Rattle.std.specs.List.{AllByRecursion}
 use Rattle.std.proofs.lemmas.List.{append_assoc}
 use Rattle.rp_span.specs.declared.Span.{Span}
 use Rattle.rp_value.specs.declared.tables.Ty.{Ty}
 use Rattle.rp_grammar.specs.Trees.{Ident, TypeTree, ParamTree, QueryTree, ProcTree, DeclForm, DeclTree}
 use Rattle.rp_lang.specs.Exprs.{Slot}
 use Rattle.rp_lang.specs.Programs.{Proc}
-use Rattle.type_rules.specs.declared.kind.Kind.{Kind}
 use Rattle.type_rules.specs.declared.kind.Base.TheVariants as base
 use Rattle.type_rules.specs.declared.role.Role.{Role}
 use Rattle.type_rules.specs.declared.role.Role.TheVariants as role
@@ -25,8 +23,8 @@ use Rattle.type_rules.specs.DeclSites.{declares_all, frame_for, named_all, param
 use Rattle.type_rules.specs.TextSites.{nothing_seen}
 use Rattle.type_rules.specs.Faults.{IsLawful}
 use Rattle.desugaring.specs.Parts.{each}
-use Rattle.desugaring.specs.Appearances.{crdt_kinds, decl_kinds, kinds_from, parts, site_kinds}
-use Rattle.desugaring.specs.Tables.{Tables, tables_of, ty_of}
+use Rattle.desugaring.specs.Appearances.{crdt_kinds, decl_kinds, kinds_from, site_kinds}
+use Rattle.desugaring.specs.Tables.{Tables, tables_of}
 use Rattle.desugaring.specs.Callees.{Vars, stand}
 use Rattle.desugaring.specs.Expressions.{uses_before}
 use Rattle.desugaring.specs.Programs.{ProcDecl, body_place, param_stands, proc_body, proc_for, proc_made, proc_with, procs_from, result_ty}
@@ -37,12 +35,12 @@ use Rattle.lawful.proofs.Behind.{inner_there}
 use Rattle.lawful.proofs.Places.{Lawfully, all_both, all_lawful, all_parts, types_are}
 use Rattle.lawful_programs.specs.Valued.{Sound, AllSound, IsWhole, AllWhole, AskedWhole, Ready, Seen, nothing, another}
 use Rattle.lawful_programs.proofs.Wholes.{bare_whole, truth_whole, whole_known, written_whole}
-use Rattle.lawful_programs.proofs.Bases.{Numbered, base_whole, text_based, text_numbered}
+use Rattle.lawful_programs.proofs.Bases.{base_whole, text_based, text_numbered}
 use Rattle.lawful_programs.proofs.Crdts.{crdt_whole}
 use Rattle.lawful_programs.proofs.Datatypes.{crdt_parts, once_whole, parts_whole, sites_whole}
 use Rattle.lawful_programs.proofs.Flow.{Exact, exact_also}
 use Rattle.lawful_programs.proofs.Invariants.{each_total}
-use Rattle.lawful_programs.proofs.Sights.{Here, StandWhole, StandsWhole, slotted_whole}
+use Rattle.lawful_programs.proofs.Sights.{Here, slotted_whole}
 use Rattle.lawful_programs.proofs.Sounds.{ProcSound, all_sound, decl_within, each_numbered, invariant_sound, param_sites_whole, procs_sound, query_kinds, query_sound, result_whole}
 use Rattle.lawful_programs.proofs.StmtWalk.{block_wholes}
 use Rattle.lawful_programs.proofs.Stmts.{block_there}
@@ -95,9 +93,11 @@ query_wholes tree lawful m at (QueryTree.query x params result body) there =
     let p = all_parts (Sound t) front _ (query_sound tree lawful m at (QueryTree.query x params result body) there) in
     let params_are = param_sites_whole t ready.bool m role.QueryParam params p.0 in
     let result_is = written_whole t ready.bool m role.QueryResult result p.1.0 in
-    join t front _ (params_wholes t m role.QueryParam params)
-    (tt, wholes t m (uses_before t m) ready (scope_for n m (may_speak tree m) params) (stands_for n params) (asks 21 (kind_of n result)) body
-    (record { decl = refl; seen = seen_for n params; whole = param_vars_whole t params params_are }) result_is p.1.1)
+    join t front _ (params_wholes t m role.QueryParam params) (
+      tt,
+      wholes t m (uses_before t m) ready (scope_for n m (may_speak tree m) params) (stands_for n params) (asks 21 (kind_of n result)) body
+          (record { decl = refl; seen = seen_for n params; whole = param_vars_whole t params params_are }) result_is p.1.1,
+    )
 
 -- # Procedures
 
@@ -180,9 +180,10 @@ proc_there tree lawful d sound =
     (length (proc_params q)) (proc_body q) refl (asked_there t (proc_result q) parts_.result_is) (proc_here t d.decl (proc_params q) (proc_result q) parts_.params_are) parts_.body in
     let params = tys_there t kinds parts_.params_are in
     let result = result_ty_there t (proc_result q) parts_.result_is in
-    let slots = tys_there t (kinds ++ m.0.slots) (all_both (IsWhole t) kinds m.0.slots parts_.params_are m.2) in
-    (proc_with d m.0 params.0 result.0 slots.0,
-    then_is (proc_made t d) _ m.0 _ m.1 (three_is (proc_with d m.0) _ _ _ params.0 result.0 slots.0 params.1 result.1 slots.1))
+    let slots = tys_there t (kinds ++ m.0.slots) (all_both (IsWhole t) kinds m.0.slots parts_.params_are m.2) in (
+      proc_with d m.0 params.0 result.0 slots.0,
+      then_is (proc_made t d) _ m.0 _ m.1 (three_is (proc_with d m.0) _ _ _ params.0 result.0 slots.0 params.1 result.1 slots.1),
+    )
 
 pub procs_there : (tree : List DeclTree) → IsLawful tree → (procs : List Proc) × (each (proc_for (tables_of tree)) (procs_from 0 tree) ≡ Some procs)
 procs_there tree lawful = each_total (ProcSound tree) (proc_for (tables_of tree)) (proc_there tree lawful) (procs_from 0 tree) (procs_sound tree lawful)
@@ -274,8 +275,10 @@ pub datatypes_whole : (tree : List DeclTree) → IsLawful tree → AllWhole (tab
 datatypes_whole tree lawful =
     let t = tables_of tree in
     let n = names_of tree in
-    once_whole t (bool_kind ∷ kinds_from n 0 0 tree)
-    (truth_whole t (text_numbered tree).bool, kinds_whole tree lawful 0 0 tree
-    (λ i d h. let same : i ≡ 0 + i = omega arith in subst (λ z. slice_get tree z ≡ Some d) same h)
-    (λ j e h. let same : j ≡ 0 + j = omega arith in
-    subst (λ z. slice_get n.types z ≡ Some e) same (subst (λ es. slice_get es j ≡ Some e) (sym (types_are tree)) h)))
+    once_whole t (bool_kind ∷ kinds_from n 0 0 tree) (
+      truth_whole t (text_numbered tree).bool,
+      kinds_whole tree lawful 0 0 tree
+          (λ i d h. let same : i ≡ 0 + i = omega arith in subst (λ z. slice_get tree z ≡ Some d) same h)
+          (λ j e h. let same : j ≡ 0 + j = omega arith in
+          subst (λ z. slice_get n.types z ≡ Some e) same (subst (λ es. slice_get es j ≡ Some e) (sym (types_are tree)) h)),
+    )

@@ -1,7 +1,6 @@
 -- The variables in sight behind statements, by the type rules and by their slots.
-use Rattle.std.proofs.Common.{◌≡◌, ◌≤◌, ◌+◌, ℕ, zero, suc, Bool, true, false, not, ◌||◌, cond, List, [], ◌∷◌, ◌++◌, map, take, length, Option, Some, None, refl, ap, subst, sym, ◌∙◌, arith}
-use Rattle.std.specs.List.{AllByRecursion}
-use Rattle.rp_grammar.specs.Trees.{Ident, TypeTree, PatternTree, ExprTree, BlockTree, StmtTree, StmtForm, StmtTrees, ElseTree, BlockArmTree, BlockArmTrees}
+use Rattle.std.proofs.Common.{◌≡◌, ◌≤◌, ◌+◌, ℕ, zero, suc, Bool, true, false, not, ◌||◌, cond, List, [], ◌∷◌, ◌++◌, map, take, length, None, refl, ap, subst, sym, ◌∙◌, arith}
+use Rattle.rp_grammar.specs.Trees.{Ident, TypeTree, BlockTree, StmtTree, StmtForm, StmtTrees, ElseTree, BlockArmTree, BlockArmTrees}
 use Rattle.rp_lang.specs.Exprs.{Ex, Slot}
 use Rattle.type_rules.specs.declared.kind.Kind.{Kind}
 use Rattle.type_rules.specs.Names.{Name, Names, same_name, text_of}
@@ -11,10 +10,9 @@ use Rattle.type_rules.specs.Typing.{type_of}
 use Rattle.type_rules.specs.Matches.{bound_var, first_kind, other_kinds, pattern_kinds, pattern_name, pattern_vars, with_bound}
 use Rattle.type_rules.specs.Flow as flow
 use Rattle.type_rules.specs.Flow.{Sight, after, after_arms, after_block, after_else, after_stmts, both, dead, declared_var, give, has_value, leave, with_value}
-use Rattle.desugaring.specs.Tables.{Tables}
 use Rattle.desugaring.specs.Callees.{Stand, Vars, stand}
-use Rattle.desugaring.specs.Statements.{behind, in_pattern, slotted, with_slot}
-use Rattle.lawful_programs.specs.Valued.{IsWhole, AllWhole, VarsWhole, Seen, nothing, another}
+use Rattle.desugaring.specs.Statements.{behind, slotted, with_slot}
+use Rattle.lawful_programs.specs.Valued.{Seen, nothing, another}
 
 -- # The first variables
 

@@ -3,8 +3,8 @@ use Rattle.std.proofs.Common.{◌≡◌, List, Some}
 use Rattle.rp_grammar.specs.Trees.{DeclTree}
 use Rattle.rp_lang.specs.Programs.{Prog}
 use Rattle.type_rules.specs.Faults.{IsLawful}
-use Rattle.desugaring.specs.Tables.{con_table, op_table, query_table, root_table, tables_of}
-use Rattle.desugaring.specs.Programs.{IsProgramOf, inv_for, invs_from, proc_for, procs_from, program_of, program_with, schema_for, schema_with}
+use Rattle.desugaring.specs.Tables.{tables_of}
+use Rattle.desugaring.specs.Programs.{IsProgramOf, program_of, program_with, schema_for, schema_with}
 use Rattle.desugaring.proofs.Options.{both_is, three_is}
 use Rattle.desugaring.proofs.Programs.{program_there}
 use Rattle.lawful_programs.proofs.Bases.{text_based, text_numbered}

@@ -1,24 +1,24 @@
 -- Where a statement stands: the variables in sight are slots, of types that have numbers.
-use Rattle.std.proofs.Common.{◌≡◌, ◌+◌, ℕ, suc, Bool, true, false, not, ◌&&◌, ◌||◌, cond, List, [], ◌∷◌, ◌++◌, length, Option, Some, None, refl, ap, subst, sym, ◌∙◌, arith}
-use Rattle.std.specs.Prelude.{find, is_some, slice_get, option_and_then}
+use Rattle.std.proofs.Common.{◌≡◌, ◌+◌, ℕ, Bool, true, false, not, ◌&&◌, ◌||◌, cond, List, [], ◌∷◌, ◌++◌, length, Option, Some, None, refl, ap, subst, sym, ◌∙◌, arith}
+use Rattle.std.specs.Prelude.{is_some, slice_get, option_and_then}
 use Rattle.std.specs.List.{AllByRecursion}
-use Rattle.std.proofs.lemmas.Bool.{not-false, or_parts, true≢false}
+use Rattle.std.proofs.lemmas.Bool.{or_parts, true≢false}
 use Rattle.std.proofs.lemmas.Cmp.{nat_list_eq_equiv}
 use Rattle.rp_span.specs.declared.Span.{Span}
 use Rattle.rp_grammar.specs.Trees.{Ident, PatternTree, TypeTree}
 use Rattle.rp_lang.specs.Exprs.{Ex, Slot}
 use Rattle.type_rules.specs.declared.kind.Kind.{Kind}
-use Rattle.type_rules.specs.Names.{Name, Names, TypeEntry, TypeSort, first_type, same_name, text_of, type_named, type_number, type_number_from}
+use Rattle.type_rules.specs.Names.{Name, TypeEntry, TypeSort, first_type, same_name, text_of, type_named, type_number, type_number_from}
 use Rattle.type_rules.specs.Kinds.{kind_of, named_kind}
 use Rattle.type_rules.specs.Accesses.{Var, find_var}
-use Rattle.type_rules.specs.Sites.{Scope, Site}
-use Rattle.type_rules.specs.Matches.{first_kind, other_kinds, pattern_kinds, pattern_name, pattern_vars}
+use Rattle.type_rules.specs.Sites.{Site}
+use Rattle.type_rules.specs.Matches.{pattern_kinds, pattern_name, pattern_vars}
 use Rattle.type_rules.specs.Flow as flow
 use Rattle.type_rules.specs.Flow.{Sight}
 use Rattle.type_rules.specs.StmtSites.{Frame, scope_in, var_kind}
-use Rattle.type_rules.specs.Rules.{is_declared, is_id_sort, is_id_type, is_later, is_taken, is_var, rule, rules, rule04, rule05, rule15, when}
+use Rattle.type_rules.specs.Rules.{is_declared, is_id_sort, is_id_type, is_later, is_taken, is_var, rule, rules, rule04, rule15, when}
 use Rattle.desugaring.specs.Tables.{Tables, atom_number, sort_ty, ty_of}
-use Rattle.desugaring.specs.Callees.{Stand, Vars, stand, stand_named, vars_of}
+use Rattle.desugaring.specs.Callees.{Stand, Vars, stand, stand_named}
 use Rattle.desugaring.specs.Statements.{id_named, id_number, in_pattern, slot_for, slot_in, slotted, with_slot}
 use Rattle.lawful.proofs.Atoms.{finds}
 use Rattle.lawful.proofs.Basics.{when_not}

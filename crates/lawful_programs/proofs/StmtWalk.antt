@@ -1,5 +1,5 @@
 -- At each place of a statement the type of what stands there has a number.
-use Rattle.std.proofs.Common.{◌≡◌, ◌+◌, ℕ, Bool, true, false, List, [], ◌∷◌, ◌++◌, length, Option, Some, None, refl, ap, subst, sym, ◌∙◌}
+use Rattle.std.proofs.Common.{◌≡◌, ℕ, Bool, true, false, List, [], ◌∷◌, ◌++◌, Some, None, refl, ap, subst, sym}
 use Rattle.std.proofs.lemmas.Bool.{and_parts, not-false}
 use Rattle.rp_grammar.specs.Trees.{StmtTree, StmtForm, StmtTrees, BlockTree, ElseTree, BlockArmTree, BlockArmTrees, AccessTree}
 use Rattle.type_rules.specs.declared.kind.Kind.{Kind}
@@ -7,7 +7,7 @@ use Rattle.type_rules.specs.Names.{Name, text_of}
 use Rattle.type_rules.specs.Kinds.{kind_of}
 use Rattle.type_rules.specs.Accesses.{find_var}
 use Rattle.type_rules.specs.Typing.{type_of}
-use Rattle.type_rules.specs.Matches.{pattern_kinds, pattern_name, pattern_vars}
+use Rattle.type_rules.specs.Matches.{pattern_name}
 use Rattle.type_rules.specs.ExprSites.{asks, bool_whole, expr_sites, matched, pattern_sites}
 use Rattle.type_rules.specs.Flow as flow
 use Rattle.type_rules.specs.Flow.{Sight, after}
@@ -39,17 +39,26 @@ module _ (t : Tables) (b : ℕ) (uses : Uses) (ready : Ready t b uses) where
     stmt_wholes f g last vs (StmtTree.node at (StmtForm.var x ty (Some e))) asked here sound =
         let n = t.names in
         let whole = written_whole t ready.bool f.decl _ ty sound.1.0 in
-        let below = declared_here t b f g false vs 0 x ty whole here in
-        (tt, (tt, wholes t b uses ready (scope_in f (flow.with_declared n g false x ty)) (with_slot n vs 0 x ty) (asks 23 (kind_of n ty)) e
-        (in_sight t b f (flow.with_declared n g false x ty) (with_slot n vs 0 x ty) below) whole sound.1.1))
+        let below = declared_here t b f g false vs 0 x ty whole here in (
+          tt,
+          (
+            tt,
+            wholes t b uses ready (scope_in f (flow.with_declared n g false x ty)) (with_slot n vs 0 x ty) (asks 23 (kind_of n ty)) e
+                (in_sight t b f (flow.with_declared n g false x ty) (with_slot n vs 0 x ty) below) whole sound.1.1,
+          ),
+        )
     stmt_wholes f g last vs (StmtTree.node at (StmtForm.new x id)) asked here sound = (tt, (tt, tt))
     stmt_wholes f g last vs (StmtTree.node at (StmtForm.assign x e)) asked here sound =
-        let a = assigned_there t b f g vs x here sound.0 in
-        (tt, wholes t b uses ready (scope_in f g) vs (value_for (find_var g.vars (text_of x))) e (in_sight t b f g vs here)
-        (subst (IsWhole t) (sym a.same) a.whole) sound.1)
-    stmt_wholes f g last vs (StmtTree.node at (StmtForm.access (AccessTree.path x steps args))) asked here sound =
-        (tt, access_wholes t b uses ready (scope_in f g) vs x steps args (in_sight t b f g vs here)
-        (at_statement t (scope_in f g) (AccessTree.path x steps args) sound.0) sound.1)
+        let a = assigned_there t b f g vs x here sound.0 in (
+          tt,
+          wholes t b uses ready (scope_in f g) vs (value_for (find_var g.vars (text_of x))) e (in_sight t b f g vs here)
+              (subst (IsWhole t) (sym a.same) a.whole) sound.1,
+        )
+    stmt_wholes f g last vs (StmtTree.node at (StmtForm.access (AccessTree.path x steps args))) asked here sound = (
+      tt,
+      access_wholes t b uses ready (scope_in f g) vs x steps args (in_sight t b f g vs here)
+          (at_statement t (scope_in f g) (AccessTree.path x steps args) sound.0) sound.1,
+    )
     stmt_wholes f g last vs (StmtTree.node at (StmtForm.if_ e body other)) asked here sound =
         let n = t.names in
         let first = expr_sites n (scope_in f g) bool_whole e in
@@ -77,9 +86,11 @@ module _ (t : Tables) (b : ℕ) (uses : Uses) (ready : Ready t b uses) where
     stmt_wholes f g last vs (StmtTree.node at (StmtForm.return (Some e))) asked here sound =
         let law = not-false _ (when_not _ _ (sound.0.0 (rule 20 rule20) (is_one_of rules 19 _ refl))) in
         let k = result_there f.result (and_parts _ _ law).1 in
-        let whole : IsWhole t k.0 = subst (AskedWhole t) k.1 asked in
-        (tt, wholes t b uses ready (scope_in f g) vs (asks 23 (result_kind f.result)) e (in_sight t b f g vs here)
-        (subst (IsWhole t) (sym (ap result_kind k.1)) whole) sound.1)
+        let whole : IsWhole t k.0 = subst (AskedWhole t) k.1 asked in (
+          tt,
+          wholes t b uses ready (scope_in f g) vs (asks 23 (result_kind f.result)) e (in_sight t b f g vs here)
+              (subst (IsWhole t) (sym (ap result_kind k.1)) whole) sound.1,
+        )
 
     pub block_wholes : (f : Frame) (g : Sight) (vs : Vars) (body : BlockTree) → AskedWhole t f.result → Here t b f g vs
         → AllSound t (block_sites t.names f g body) → Wholes t (block_sites t.names f g body)

@@ -1,37 +1,34 @@
 -- What a statement of a lawful place becomes.
-use Rattle.std.proofs.Common.{◌≡◌, ◌+◌, ℕ, suc, Bool, true, false, not, ◌&&◌, List, [], ◌∷◌, ◌++◌, length, Option, Some, None, refl, ap, subst, sym, ◌∙◌, arith}
-use Rattle.std.specs.Prelude.{option_map, option_and_then, codes}
-use Rattle.std.specs.List.{AllByRecursion}
-use Rattle.std.proofs.lemmas.Bool.{and_parts, not-false, or_parts}
+use Rattle.std.proofs.Common.{◌≡◌, ◌+◌, ℕ, Bool, true, false, List, [], ◌∷◌, ◌++◌, length, Option, Some, None, refl, ap, subst, sym, ◌∙◌, arith}
+use Rattle.std.specs.Prelude.{option_map, option_and_then}
+use Rattle.std.proofs.lemmas.Bool.{and_parts, not-false}
 use Rattle.rp_span.specs.declared.Span.{Span}
-use Rattle.rp_grammar.specs.Trees.{Ident, TypeTree, PatternTree, ExprTree, ExprForm, AccessTree, StepTrees, ArgTrees, BlockTree, StmtTree, StmtForm, StmtTrees, ElseTree, BlockArmTree, BlockArmTrees}
+use Rattle.rp_grammar.specs.Trees.{Ident, ExprTree, ExprForm, AccessTree, BlockTree, StmtTree, StmtForm, StmtTrees, ElseTree, BlockArmTree, BlockArmTrees}
 use Rattle.rp_lang.specs.Exprs.{Ex, OpTerm, Slot}
 use Rattle.rp_lang.specs.Stmts.{New, Return, no_st, no_st_arm}
 use Rattle.type_rules.specs.declared.kind.Kind.{Kind}
-use Rattle.type_rules.specs.Names.{Name, Names, text_of, type_named}
+use Rattle.type_rules.specs.Names.{Name, text_of}
 use Rattle.type_rules.specs.Kinds.{bool_kind, kind_of}
 use Rattle.type_rules.specs.Paths.{Member, is_operation}
-use Rattle.type_rules.specs.Accesses.{Access, access_of, find_var}
+use Rattle.type_rules.specs.Accesses.{Access, find_var}
 use Rattle.type_rules.specs.Typing.{type_of}
 use Rattle.type_rules.specs.Sites.{Scope, Site}
-use Rattle.type_rules.specs.Starts.{word_at}
-use Rattle.type_rules.specs.Matches.{pattern_kinds, pattern_name, pattern_vars, first_kind, other_kinds}
+use Rattle.type_rules.specs.Matches.{pattern_kinds, pattern_name, pattern_vars}
 use Rattle.type_rules.specs.ExprSites.{access_sites, asks, bool_whole, expr_sites, given_sites, matched, pattern_sites, step_sites, way_from}
 use Rattle.type_rules.specs.Flow as flow
 use Rattle.type_rules.specs.Flow.{Sight, after}
-use Rattle.type_rules.specs.StmtSites.{Frame, arm_sites, before_stmts, block_sites, else_sites, is_last, is_there, result_kind, scope_in, stmt_sites, stmts_sites, value_for, var_kind}
-use Rattle.type_rules.specs.Rules.{is_id_type, is_statement, may_leave, misfit_in, rule, rules, rule05, rule13, rule20, same_truth, is_datatype_kind}
+use Rattle.type_rules.specs.StmtSites.{Frame, arm_sites, before_stmts, block_sites, else_sites, is_last, is_there, result_kind, scope_in, stmt_sites, stmts_sites, value_for}
+use Rattle.type_rules.specs.Rules.{is_statement, misfit_in, rule, rules, rule05, rule13, rule20, same_truth, is_datatype_kind}
 use Rattle.type_rules.specs.Faults.{IsOneOf}
 use Rattle.desugaring.specs.Tables.{Tables}
 use Rattle.desugaring.specs.Values.{Value, term, formula, append, reads}
-use Rattle.desugaring.specs.Callees.{Called, Vars, operation, stand, stand_named, vars_of}
+use Rattle.desugaring.specs.Callees.{Vars, stand, stand_named, vars_of}
 use Rattle.desugaring.specs.Expressions.{Uses, applied, arg_terms, called_with, key_terms, value}
-use Rattle.desugaring.specs.Statements.{Place, Made, MadeArms, arm_with, arms_made, asserted, assigned_to, assignment_to, atomic, before, behind, block, branching, else_made, generation, id_named, in_pattern, inside, is_apart, just, made, matching, operating, past_hidden, pattern_slots, returning, returning_term, slot_for, slot_kinds, stmt, stmts_made, with_kind, with_slot}
+use Rattle.desugaring.specs.Statements.{Place, Made, MadeArms, arm_with, arms_made, asserted, assigned_to, assignment_to, atomic, before, behind, block, branching, else_made, in_pattern, inside, is_apart, just, made, matching, operating, past_hidden, pattern_slots, returning, returning_term, slot_for, slot_kinds, stmt, stmts_made, with_kind, with_slot}
 use Rattle.desugaring.proofs.Options.{both_is, map_is, term_is, then_is}
 use Rattle.lawful.proofs.Basics.{when_not}
-use Rattle.lawful.proofs.Forms.{one}
 use Rattle.lawful.proofs.Places.{all_both, all_parts, is_one_of}
-use Rattle.lawful_programs.specs.Valued.{Sound, AllSound, IsWhole, AllWhole, AskedWhole, Ready, Valued}
+use Rattle.lawful_programs.specs.Valued.{Sound, AllSound, IsWhole, AllWhole, AskedWhole, Ready}
 use Rattle.lawful_programs.proofs.Wholes.{truth_whole, written_whole}
 use Rattle.lawful_programs.proofs.Types.{type_whole}
 use Rattle.lawful_programs.proofs.Numbers.{arm_there}
@@ -117,10 +114,13 @@ module _ (t : Tables) (b : ℕ) (uses : Uses) (ready : Ready t b uses) where
       let acts = acts_there _ law kept.t12 r.some in
       let k = r.acts acts.0 acts.1 acts.2 in
       let v = OpTerm k.0 (append keys.0 own.0) in
-      let gives : called_with uses r.c.what keys.0 own.0 ≡ Some (term v) = ap (λ w. called_with uses w keys.0 own.0) k.1 in
-      (_, then_is (operating p at) _ (term v) _
-      (then_is (λ c. applied uses c.what (key_terms t uses vs c.keys steps) (arg_terms t uses vs c.args args)) _ r.c (term v) r.is
-      (then_is _ (key_terms t uses vs r.c.keys steps) keys.0 (term v) keys.1 (then_is _ (arg_terms t uses vs r.c.args args) own.0 (term v) own.1 gives))) refl, tt)
+      let gives : called_with uses r.c.what keys.0 own.0 ≡ Some (term v) = ap (λ w. called_with uses w keys.0 own.0) k.1 in (
+        _,
+        then_is (operating p at) _ (term v) _
+            (then_is (λ c. applied uses c.what (key_terms t uses vs c.keys steps) (arg_terms t uses vs c.args args)) _ r.c (term v) r.is
+            (then_is _ (key_terms t uses vs r.c.keys steps) keys.0 (term v) keys.1 (then_is _ (arg_terms t uses vs r.c.args args) own.0 (term v) own.1 gives))) refl,
+        tt,
+      )
 
   mutual
     pub stmt_there : (f : Frame) (g : Sight) (last : Bool) (p : Place) (vs : Vars) (next : ℕ) (s : StmtTree) → p.result ≡ f.result → AskedWhole t f.result → Here t b f g vs
@@ -136,9 +136,12 @@ module _ (t : Tables) (b : ℕ) (uses : Uses) (ready : Ready t b uses) where
         let ws = with_slot n vs next x ty in
         let v = valued t b uses ready (scope_in f (flow.with_declared n g false x ty)) ws (asks 23 k) e
         (in_sight t b f (flow.with_declared n g false x ty) ws below) whole sound.1.1 in
-        let own = assigned_to p at next v.0 in
-        (with_kind k own, map_is (with_kind k) _ own (then_is (assignment_to t uses p ws at e) (stand_named ws (text_of x)) _ own
-        (declared_found t b f g vs next x ty here sound.0) (both_is (assigned_to p at) (Some next) _ next v.0 refl v.1)), (whole, tt))
+        let own = assigned_to p at next v.0 in (
+          with_kind k own,
+          map_is (with_kind k) _ own (then_is (assignment_to t uses p ws at e) (stand_named ws (text_of x)) _ own
+              (declared_found t b f g vs next x ty here sound.0) (both_is (assigned_to p at) (Some next) _ next v.0 refl v.1)),
+          (whole, tt),
+        )
     stmt_there f g last p vs next (StmtTree.node at (StmtForm.new x id)) result asked here sound =
         let a = assigned_there t b f g vs x here sound.0 in
         let law = not-false _ (when_not _ _ (sound.1.0.0 (rule 5 rule05) (is_one_of rules 4 _ refl))) in
@@ -148,9 +151,12 @@ module _ (t : Tables) (b : ℕ) (uses : Uses) (ready : Ready t b uses) where
         let a = assigned_there t b f g vs x here sound.0 in
         let v = valued t b uses ready (scope_in f g) vs (value_for (find_var g.vars (text_of x))) e (in_sight t b f g vs here)
         (subst (IsWhole t) (sym a.same) a.whole) sound.1 in
-        let found = subst (λ k. value t uses vs (Some k) e ≡ Some v.0) a.same v.1 in
-        (assigned_to p at a.slot v.0, then_is (assignment_to t uses p vs at e) (stand_named vs (text_of x)) a.s _ a.is
-        (both_is (assigned_to p at) _ _ a.slot v.0 a.at found), tt)
+        let found = subst (λ k. value t uses vs (Some k) e ≡ Some v.0) a.same v.1 in (
+          assigned_to p at a.slot v.0,
+          then_is (assignment_to t uses p vs at e) (stand_named vs (text_of x)) a.s _ a.is
+              (both_is (assigned_to p at) _ _ a.slot v.0 a.at found),
+          tt,
+        )
     stmt_there f g last p vs next (StmtTree.node at (StmtForm.access a)) result asked here sound =
         operation_there (scope_in f g) vs p at a (in_sight t b f g vs here) sound
     stmt_there f g last p vs next (StmtTree.node at (StmtForm.if_ e body other)) result asked here sound =
@@ -161,10 +167,11 @@ module _ (t : Tables) (b : ℕ) (uses : Uses) (ready : Ready t b uses) where
         let v = valued t b uses ready (scope_in f g) vs bool_whole e (in_sight t b f g vs here) (truth_whole t ready.bool) inner.0 in
         let start = past_hidden (is_apart p v.0) next in
         let left = block_there f g p vs start body result asked here inner.1 in
-        let right = else_there f g p vs (start + length left.0.slots) other result asked here outer.1 in
-        (branching (is_apart p v.0) at next v.0 left.0 right.0,
-        then_is _ _ v.0 _ v.1 (then_is _ _ left.0 _ left.1 (map_is (branching (is_apart p v.0) at next v.0 left.0) _ right.0 right.1)),
-        branching_slots t (is_apart p v.0) at next v.0 left.0 right.0 (truth_whole t ready.bool) left.2 right.2)
+        let right = else_there f g p vs (start + length left.0.slots) other result asked here outer.1 in (
+          branching (is_apart p v.0) at next v.0 left.0 right.0,
+          then_is _ _ v.0 _ v.1 (then_is _ _ left.0 _ left.1 (map_is (branching (is_apart p v.0) at next v.0 left.0) _ right.0 right.1)),
+          branching_slots t (is_apart p v.0) at next v.0 left.0 right.0 (truth_whole t ready.bool) left.2 right.2,
+        )
     stmt_there f g last p vs next (StmtTree.node at (StmtForm.match e arms)) result asked here sound =
         let n = t.names in
         let there = in_sight t b f g vs here in
@@ -178,10 +185,11 @@ module _ (t : Tables) (b : ℕ) (uses : Uses) (ready : Ready t b uses) where
         let whole = type_whole t ready.bool sc (accesses_whole t b uses ready sc vs there) matched e tt parts.0 in
         let start = past_hidden (is_apart p (term x.0)) next in
         let r = subst (λ z. MakesArms t (arms_made t uses p vs start z arms)) same
-        (arms_there f g [] p vs start k arms result asked here whole (matched_there t sc matched e refl parts.0) parts.1.1) in
-        (matching (is_apart p (term x.0)) at next j x.0 r.0,
-        then_is _ _ x.0 _ (term_is _ _ x.1) (map_is (matching (is_apart p (term x.0)) at next j x.0) _ r.0 r.1),
-        matching_slots t (is_apart p (term x.0)) at next j x.0 r.0 (subst (IsWhole t) same whole) r.2)
+        (arms_there f g [] p vs start k arms result asked here whole (matched_there t sc matched e refl parts.0) parts.1.1) in (
+          matching (is_apart p (term x.0)) at next j x.0 r.0,
+          then_is _ _ x.0 _ (term_is _ _ x.1) (map_is (matching (is_apart p (term x.0)) at next j x.0) _ r.0 r.1),
+          matching_slots t (is_apart p (term x.0)) at next j x.0 r.0 (subst (IsWhole t) same whole) r.2,
+        )
     stmt_there f g last p vs next (StmtTree.node at (StmtForm.atomic body)) result asked here sound =
         let inner : Here t b (record f { inside_atomic = true }) g vs = record { decl = here.decl; exact = here.exact; whole = here.whole } in
         let r = block_there (record f { inside_atomic = true }) g (inside p) vs next body result asked inner sound.1 in
@@ -196,10 +204,11 @@ module _ (t : Tables) (b : ℕ) (uses : Uses) (ready : Ready t b uses) where
         let whole : IsWhole t k.0 = subst (AskedWhole t) k.1 asked in
         let at_result : result_kind f.result ≡ k.0 = ap result_kind k.1 in
         let v = valued t b uses ready (scope_in f g) vs (asks 23 (result_kind f.result)) e (in_sight t b f g vs here) (subst (IsWhole t) (sym at_result) whole) sound.1 in
-        let found = subst (λ z. value t uses vs (Some z) e ≡ Some v.0) at_result v.1 in
-        (returning at next k.0 v.0,
-        then_is (λ z. option_map (returning at next z) (value t uses vs (Some z) e)) p.result k.0 _ (result ∙ k.1) (map_is (returning at next k.0) _ v.0 found),
-        returning_slots t at next k.0 v.0 whole)
+        let found = subst (λ z. value t uses vs (Some z) e ≡ Some v.0) at_result v.1 in (
+          returning at next k.0 v.0,
+          then_is (λ z. option_map (returning at next z) (value t uses vs (Some z) e)) p.result k.0 _ (result ∙ k.1) (map_is (returning at next k.0) _ v.0 found),
+          returning_slots t at next k.0 v.0 whole,
+        )
 
     pub block_there : (f : Frame) (g : Sight) (p : Place) (vs : Vars) (next : ℕ) (body : BlockTree) → p.result ≡ f.result → AskedWhole t f.result → Here t b f g vs
         → AllSound t (block_sites t.names f g body) → Makes t (block t uses p vs next body)
@@ -219,9 +228,11 @@ module _ (t : Tables) (b : ℕ) (uses : Uses) (ready : Ready t b uses) where
           exact = stmt_after n g vs next s here.exact;
           whole = behind_whole t ready.bool (before_stmts f stmts) g (is_last stmts) vs next s here.whole parts.0;
         } in
-        let rest = stmts_there f (after n g s) p (behind n vs next s) (next + length first.0.slots) stmts result asked past parts.1 in
-        (before first.0 rest.0, then_is _ _ first.0 _ first.1 (map_is (before first.0) _ rest.0 rest.1),
-        all_both (IsWhole t) first.0.slots rest.0.slots first.2 rest.2)
+        let rest = stmts_there f (after n g s) p (behind n vs next s) (next + length first.0.slots) stmts result asked past parts.1 in (
+          before first.0 rest.0,
+          then_is _ _ first.0 _ first.1 (map_is (before first.0) _ rest.0 rest.1),
+          all_both (IsWhole t) first.0.slots rest.0.slots first.2 rest.2,
+        )
 
     else_there : (f : Frame) (g : Sight) (p : Place) (vs : Vars) (next : ℕ) (other : ElseTree) → p.result ≡ f.result → AskedWhole t f.result → Here t b f g vs
         → AllSound t (else_sites t.names f g other) → Makes t (else_made t uses p vs next other)
@@ -245,8 +256,9 @@ module _ (t : Tables) (b : ℕ) (uses : Uses) (ready : Ready t b uses) where
         let own = block_there f h p (in_pattern n vs next k q) (next + length (pattern_vars q)) body result asked
         (pattern_here t b f g vs next k q fields arm.many here) inner.1 in
         let rest = arms_there f g (pattern_name q ∷ past) p vs (next + length (pattern_vars q) + length own.0.slots) k arms result asked here whole data_ outer.1 in
-        let slots = pattern_slots n k q in
-        (arm_with q next slots arm.con own.0 rest.0,
-        then_is _ _ arm.con _ arm.is (then_is _ _ own.0 _ own.1 (map_is (arm_with q next slots arm.con own.0) _ rest.0 rest.1)),
-        all_both (IsWhole t) (slots ++ own.0.slots) rest.0.slots
-        (all_both (IsWhole t) slots own.0.slots (pattern_whole t (pattern_vars q) kinds fields arm.many) own.2) rest.2)
+        let slots = pattern_slots n k q in (
+          arm_with q next slots arm.con own.0 rest.0,
+          then_is _ _ arm.con _ arm.is (then_is _ _ own.0 _ own.1 (map_is (arm_with q next slots arm.con own.0) _ rest.0 rest.1)),
+          all_both (IsWhole t) (slots ++ own.0.slots) rest.0.slots
+              (all_both (IsWhole t) slots own.0.slots (pattern_whole t (pattern_vars q) kinds fields arm.many) own.2) rest.2,
+        )

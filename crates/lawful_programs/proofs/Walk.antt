@@ -1,17 +1,16 @@
 -- At each place of an expression the type of what stands there has a number.
-use Rattle.std.proofs.Common.{◌≡◌, ◌+◌, ℕ, Bool, true, false, List, [], ◌∷◌, ◌++◌, length, Option, Some, None, refl, ap, subst, sym, ◌∙◌, arith}
+use Rattle.std.proofs.Common.{◌≡◌, ℕ, Bool, true, false, List, [], ◌∷◌, ◌++◌, length, None, refl, subst, sym, ◌∙◌, arith}
 use Rattle.std.specs.List.{AllByRecursion}
 use Rattle.rp_span.specs.declared.Span.{Span}
-use Rattle.rp_grammar.specs.Trees.{Ident, ParamTree, PatternTree, ExprTree, ExprForm, ExprTrees, ExprArmTree, ExprArmTrees, AccessTree, StepTree, StepTrees, ArgTrees}
+use Rattle.rp_grammar.specs.Trees.{Ident, PatternTree, ExprTree, ExprForm, ExprTrees, ExprArmTree, ExprArmTrees, AccessTree, StepTree, StepTrees, ArgTrees}
 use Rattle.type_rules.specs.declared.kind.Kind.{Kind}
 use Rattle.type_rules.specs.Names.{Name, text_of, param_type}
-use Rattle.type_rules.specs.Kinds.{kind_of}
 use Rattle.type_rules.specs.Paths.{Way, stepped, key_kind}
 use Rattle.type_rules.specs.Accesses.{Var, count, find_var}
 use Rattle.type_rules.specs.Typing.{type_of}
 use Rattle.type_rules.specs.Sites.{Scope, Want, Site}
 use Rattle.type_rules.specs.Matches.{bound_sites, bound_var, first_kind, other_kinds, pattern_kinds, pattern_name, pattern_vars}
-use Rattle.type_rules.specs.ExprSites.{access_sites, arg_sites, argument, arm_sites, bool_operand, bool_whole, expr_sites, form_sites, given_sites, held, int_operand, key_sites, left_want, matched, operand_sites, pattern_sites, quantified_var, right_want, step_sites, way_from, with_pattern, with_var, word_args}
+use Rattle.type_rules.specs.ExprSites.{access_sites, arg_sites, argument, arm_sites, bool_operand, bool_whole, expr_sites, form_sites, given_sites, held, int_operand, left_want, matched, operand_sites, pattern_sites, quantified_var, right_want, step_sites, way_from, with_pattern, with_var, word_args}
 use Rattle.type_rules.specs.Rules.{is_datatype_kind, rule, rules, rule14}
 use Rattle.desugaring.specs.Tables.{Tables}
 use Rattle.desugaring.specs.Callees.{Vars}
@@ -64,13 +63,23 @@ module _ (t : Tables) (b : ℕ) (uses : Uses) (ready : Ready t b uses) where
     form_wholes sc vs w at (ExprForm.and es) there asked sound = operand_wholes sc vs es there sound.1
     form_wholes sc vs w at (ExprForm.not e) there asked sound = wholes sc vs bool_operand e there (truth_whole t ready.bool) sound.1
     form_wholes sc vs w at (ExprForm.forall q e) there asked sound =
-        let whole = written_whole t ready.bool sc.decl _ (param_type q) sound.1.1.0 in
-        (tt, (tt, wholes (with_var sc (quantified_var t.names q)) (under_quantifier t.names vs q) bool_operand e (in_quantifier t b sc vs q whole there)
-        (truth_whole t ready.bool) sound.1.1.1))
+        let whole = written_whole t ready.bool sc.decl _ (param_type q) sound.1.1.0 in (
+          tt,
+          (
+            tt,
+            wholes (with_var sc (quantified_var t.names q)) (under_quantifier t.names vs q) bool_operand e (in_quantifier t b sc vs q whole there)
+                (truth_whole t ready.bool) sound.1.1.1,
+          ),
+        )
     form_wholes sc vs w at (ExprForm.exists q e) there asked sound =
-        let whole = written_whole t ready.bool sc.decl _ (param_type q) sound.1.1.0 in
-        (tt, (tt, wholes (with_var sc (quantified_var t.names q)) (under_quantifier t.names vs q) bool_operand e (in_quantifier t b sc vs q whole there)
-        (truth_whole t ready.bool) sound.1.1.1))
+        let whole = written_whole t ready.bool sc.decl _ (param_type q) sound.1.1.0 in (
+          tt,
+          (
+            tt,
+            wholes (with_var sc (quantified_var t.names q)) (under_quantifier t.names vs q) bool_operand e (in_quantifier t b sc vs q whole there)
+                (truth_whole t ready.bool) sound.1.1.1,
+          ),
+        )
     form_wholes sc vs w at (ExprForm.compare c d e) there asked sound =
         let left = left_want t.names sc.vars c d e in
         let right = right_want t.names sc.vars c d e in
