@@ -69,6 +69,7 @@ con_callable t numbered based uses vs x StepTrees.no_steps name decl type c is f
       args_whole = at_place (CaseWhole t) (map (con_case n) is.1) is.4.0 (con_case n c) fields at;
       whole = bare_whole t (base.Declared type) known_;
       gives = λ keys es e h. (term (Con has.con (append keys es)), refl, tt);
+      acts = λ m e h. absurd cc;
     }
 
 -- # Procedures
@@ -116,6 +117,7 @@ proc_callable t uses vs x StepTrees.no_steps name decl q at head fit =
       args_whole = head.params;
       whole = bare_whole t base.Info (ty.Info, refl);
       gives = λ keys es e h. (term (InfoTerm k.0 (append keys es)), refl, tt);
+      acts = λ m e h. absurd cc;
     }
 proc_callable t uses vs x (StepTrees.more_steps (StepTree.returned s) StepTrees.no_steps) name decl q at head fit =
     let k = proc_there t q at in
@@ -131,6 +133,7 @@ proc_callable t uses vs x (StepTrees.more_steps (StepTree.returned s) StepTrees.
       gives = λ keys es e h.
           subst (λ z. Valued (plain_kind base.Outcome) true (outcome_with k.0 (append z es))) (sym (no_key keys e))
           (outcome_value t.names k.0 true (plain_kind base.Outcome) (proc_result q) es h);
+      acts = λ m e h. absurd cc;
     }
 proc_callable t uses vs x (StepTrees.more_steps (StepTree.returned s) (StepTrees.more_steps z steps)) name decl q at head fit = absurd cc
 proc_callable t uses vs x (StepTrees.more_steps (StepTree.dot y) steps) name decl q at head fit = absurd cc

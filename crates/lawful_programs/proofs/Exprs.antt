@@ -35,7 +35,7 @@ use Rattle.lawful_programs.proofs.Sides.{sides_whole, left_wanted, right_wanted,
 
 -- # Variables that an expression binds
 
-in_quantifier : (t : Tables) (b : ℕ) (sc : Scope) (vs : Vars) (q : ParamTree) → IsWhole t (kind_of t.names (param_type q)) → In t b sc vs
+pub in_quantifier : (t : Tables) (b : ℕ) (sc : Scope) (vs : Vars) (q : ParamTree) → IsWhole t (kind_of t.names (param_type q)) → In t b sc vs
     → In t b (with_var sc (quantified_var t.names q)) (under_quantifier t.names vs q)
 in_quantifier t b sc vs q whole there = record {
   decl = there.decl;
@@ -43,7 +43,7 @@ in_quantifier t b sc vs q whole there = record {
   whole = all_both (VarWhole t) sc.vars (quantified_var t.names q ∷ []) there.whole (whole, tt);
 }
 
-in_pattern : (t : Tables) (b : ℕ) (sc : Scope) (vs : Vars) (k : Kind) (q : PatternTree) → AllWhole t (pattern_kinds t.names k (pattern_name q))
+pub in_pattern : (t : Tables) (b : ℕ) (sc : Scope) (vs : Vars) (k : Kind) (q : PatternTree) → AllWhole t (pattern_kinds t.names k (pattern_name q))
     → length (pattern_kinds t.names k (pattern_name q)) ≡ length (pattern_vars q) → In t b sc vs
     → In t b (with_pattern t.names sc k q) (under_pattern t.names vs k q)
 in_pattern t b sc vs k q whole many there = record {
@@ -56,7 +56,7 @@ in_pattern t b sc vs k q whole many there = record {
 add_term : (m : ℕ) (k : Kind) (ks : List Kind) → m ≡ length ks → m + 1 ≡ length (k ∷ ks)
 add_term m k ks e = omega (arith, e)
 
-one_less : (m : ℕ) (k : Kind) (ks : List Kind) → m + 1 ≡ length (k ∷ ks) → m ≡ length ks
+pub one_less : (m : ℕ) (k : Kind) (ks : List Kind) → m + 1 ≡ length (k ∷ ks) → m ≡ length ks
 one_less m k ks e = omega (arith, e)
 
 pub accesses_whole : (t : Tables) (b : ℕ) (uses : Uses) → Ready t b uses → (sc : Scope) (vs : Vars) → In t b sc vs → AccessesWhole t sc
@@ -64,7 +64,7 @@ accesses_whole t b uses ready sc vs there at w (AccessTree.path x steps args) so
     (reached t b uses ready sc vs there x steps args (at_place t sc w at (AccessTree.path x steps args) sound)).whole
 
 module _ (t : Tables) (b : ℕ) (uses : Uses) (ready : Ready t b uses) where
-  abbrev Terms : List Kind → Option Exs → Type 0
+  abbrev pub Terms : List Kind → Option Exs → Type 0
   Terms ks o = (xs : Exs) × (o ≡ Some xs) × (count_terms xs ≡ length ks)
 
   mutual
@@ -197,7 +197,7 @@ module _ (t : Tables) (b : ℕ) (uses : Uses) (ready : Ready t b uses) where
         let r = args_valued sc vs plain ks es there makes.1 whole.1 (one_less (count es) k ks many) p.1 in
         (also_ex x.0 r.0, both_is also_ex _ _ x.0 r.0 (term_is _ _ x.1) r.1, add_term (count_terms r.0) k ks r.2)
 
-    given_valued : (sc : Scope) (vs : Vars) (ks : List Kind) (args : ArgTrees) → In t b sc vs → AllWhole t ks → count_args args ≡ length ks
+    pub given_valued : (sc : Scope) (vs : Vars) (ks : List Kind) (args : ArgTrees) → In t b sc vs → AllWhole t ks → count_args args ≡ length ks
         → AllSound t (given_sites t.names sc ks args) → Terms ks (arg_terms t uses vs ks args)
     given_valued sc vs [] ArgTrees.absent there whole many sound = (no_ex, refl, refl)
     given_valued sc vs (k ∷ ks) ArgTrees.absent there whole many sound = absurd (omega (arith, many))
@@ -205,7 +205,7 @@ module _ (t : Tables) (b : ℕ) (uses : Uses) (ready : Ready t b uses) where
     given_valued sc vs (k ∷ ks) (ArgTrees.given es) there whole many sound =
         args_valued sc vs true (k ∷ ks) es there (plain_terms (k ∷ ks)) whole many sound
 
-    keys_valued : (sc : Scope) (vs : Vars) (way : Way) (ks : List Kind) (steps : StepTrees) → In t b sc vs → Along t.names way steps ks → AllWhole t ks
+    pub keys_valued : (sc : Scope) (vs : Vars) (way : Way) (ks : List Kind) (steps : StepTrees) → In t b sc vs → Along t.names way steps ks → AllWhole t ks
         → AllSound t (step_sites t.names sc way steps) → Terms ks (key_terms t uses vs ks steps)
     keys_valued sc vs way ks StepTrees.no_steps there Along.ends whole sound = (no_ex, refl, refl)
     keys_valued sc vs way [] (StepTrees.more_steps (StepTree.dot x) steps) there (Along.dot along) whole sound =

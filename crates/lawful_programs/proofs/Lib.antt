@@ -18,3 +18,11 @@ mod Uses
 mod Names
 mod Invariants
 mod Tables
+mod Flow
+mod Sights
+mod Stmts
+mod Walk
+mod StmtWalk
+mod Datatypes
+mod Decls
+mod Programs

@@ -8,14 +8,14 @@ use Rattle.rp_lang.specs.Exprs.{Ex, Exs, no_ex, also_ex}
 use Rattle.type_rules.specs.declared.kind.Kind.{Kind}
 use Rattle.type_rules.specs.Names.{Names, Entry, Declared, text_of, entry_named, con_fields, param_type}
 use Rattle.type_rules.specs.Kinds.{kind_of}
-use Rattle.type_rules.specs.Paths.{Way, walked}
+use Rattle.type_rules.specs.Paths.{Member, Way, is_operation, walked}
 use Rattle.type_rules.specs.Accesses.{Var, Access, find_var, access_kind, access_of, args_of, args_fit, alone, con_args_fit, count, has_args, is_bare, of_declared, of_entry, of_name, of_way, proc_params, proc_result, query_params, result_args}
 use Rattle.type_rules.specs.Typing.{is_plain_access}
 use Rattle.type_rules.specs.Sites.{Scope, Want, Site}
 use Rattle.type_rules.specs.ExprSites.{entry_way, way_from}
 use Rattle.type_rules.specs.Rules.{rule, rules, rule03, rule04, rule12, rule14, rule15, access_fits, is_declared, is_late_query, is_later, is_query, is_var, late_query, misfit_in, nowhere, root_of, too_early, when}
 use Rattle.desugaring.specs.Tables.{Tables}
-use Rattle.desugaring.specs.Callees.{Stand, Vars, vars_of, stand_named, Called, of_access, taking, variable}
+use Rattle.desugaring.specs.Callees.{operation, Stand, Vars, vars_of, stand_named, Called, of_access, taking, variable}
 use Rattle.desugaring.specs.Values.{term}
 use Rattle.desugaring.specs.Expressions.{Uses, called_with}
 use Rattle.lawful.specs.Typed.{Along}
@@ -68,7 +68,7 @@ declared_there false false false a b e h is = absurd cc
 
 -- # Numbers of arguments
 
-abbrev is_nothing : Access → Bool
+abbrev pub is_nothing : Access → Bool
 is_nothing Access.unknown = true
 is_nothing _ = false
 
@@ -141,6 +141,8 @@ pub record ReachedBy (t : Tables) (uses : Uses) (steps : StepTrees) (args : ArgT
   pub whole : IsWhole t (access_kind t.names shown)
   pub gives : (keys es : Exs) → count_terms keys ≡ length c.keys → count_terms es ≡ length c.args
       → Valued (access_kind t.names shown) (is_plain_access t.names shown) (called_with uses c.what keys es)
+  pub acts : (m : Member) → shown ≡ Access.member m → is_operation m.does ≡ true → (k : ℕ) × (c.what ≡ operation k)
+  pub some : is_nothing shown ≡ false
 
 no_terms : (uses : Uses) (k : Kind) (plain : Bool) (known : Ex) (keys es : Exs) → count_terms keys ≡ 0 → count_terms es ≡ 0
     → Valued k plain (called_with uses (variable known) keys es)
@@ -172,6 +174,8 @@ of_entries t b uses ready vs x steps args (Some e) is some fit early fits =
       args_whole = call.args_whole;
       whole = call.whole;
       gives = call.gives;
+      acts = call.acts;
+      some = something n x steps e.decl e.what;
     }
 
 pub late_there : (n : Names) (sc : Scope) (x : Ident) (b : ℕ) → sc.decl ≡ b → late_query n sc x ≡ None → is_var sc.vars x ≡ false
@@ -204,6 +208,8 @@ by_look t b uses ready sc vs decl x StepTrees.no_steps args o s u (Looks.there {
       args_whole = tt;
       whole = whole;
       gives = no_terms uses kind true meant;
+      acts = λ m e h. absurd cc;
+      some = refl;
     }
 by_look t b uses ready sc vs decl x (StepTrees.more_steps step steps) args o s u (Looks.there whole) named seen fit fits kept = absurd cc
 by_look t b uses ready sc vs decl x steps args o s u Looks.nowhere named seen fit fits kept =

@@ -2,7 +2,7 @@
 use Rattle.std.proofs.Common.{◌≡◌, ◌+◌, ◌==◌, ◌&&◌, ℕ, Bool, true, false, not, cond, List, [], ◌∷◌, Some, None, refl, ap, subst, sym, ◌∙◌, arith, inl, inr}
 use Rattle.std.specs.Prelude.{slice_get, option_map}
 use Rattle.std.specs.List.{AllByRecursion}
-use Rattle.std.proofs.lemmas.Bool.{and_from, eq-eqb}
+use Rattle.std.proofs.lemmas.Bool.{and_from, eq-eqb, true≢false}
 use Rattle.rp_grammar.specs.Trees.{Ident, CrdtTree, StepTrees, DeclTree}
 use Rattle.rp_lang.specs.declared.op.OpKind.{OpKind}
 use Rattle.rp_lang.specs.declared.query.QueryKind.{QueryKind}
@@ -13,7 +13,7 @@ use Rattle.type_rules.specs.declared.kind.Kind.{Kind}
 use Rattle.type_rules.specs.Names.{Name, Declared, same_name, text_of}
 use Rattle.type_rules.specs.Kinds.{bool_kind}
 use Rattle.type_rules.specs.Paths.{Does, Member, Way, form_of, is_operation, is_question, members_of, walked}
-use Rattle.type_rules.specs.Accesses.{access_kind, args_of, of_entry, of_way}
+use Rattle.type_rules.specs.Accesses.{Access, access_kind, args_of, of_entry, of_way}
 use Rattle.type_rules.specs.Typing.{is_plain_access}
 use Rattle.type_rules.specs.Queries.{names_of}
 use Rattle.type_rules.specs.Rules.{misfit_in}
@@ -154,7 +154,12 @@ op_callable tree uses vs x steps name decl c m walk l acts =
       gives = λ keys es e h.
           subst (λ w. Valued (access_kind n (of_way x w)) (is_plain_access n (of_way x w)) (called_with uses (op_called y.0).what keys es)) (sym walk)
           (term (OpTerm (y.0.0 + 1) (append keys es)), refl, tt);
+      acts = λ z e h. (y.0.0 + 1, refl);
     }
+
+abbrev acts_by : Access → Bool
+acts_by (Access.member m) = is_operation m.does
+acts_by _ = false
 
 asked_value : (uses : Uses) (k : Kind) (plain : Bool) (i : ℕ) (keys es : Exs) (gets : Bool) → (gets ≡ false → (k ≡ bool_kind) × (plain ≡ false))
     → Valued k plain (called_with uses (cond gets (value i) (question i)) keys es)
@@ -196,6 +201,7 @@ query_callable tree uses vs x steps name decl c m walk l acts =
       gives = λ keys es e h.
           subst (λ w. Valued (access_kind n (of_way x w)) (is_plain_access n (of_way x w)) (called_with uses (query_called y.0).what keys es)) (sym walk)
           (asked_value uses m.result (not (is_question m.does)) y.0.0 keys es (is_get y.0.1.own.kind) (λ asks. (found.3 asks, ap not (l.whole.truth (found.3 asks)))));
+      acts = λ z e h. absurd (true≢false (sym h ∙ sym (ap acts_by (sym (ap (of_way x) walk) ∙ e)) ∙ acts));
     }
 
 pub root_callable : (tree : List DeclTree) → IsLawful tree → Numbered (tables_of tree) → (uses : Uses) (vs : Vars) (x : Ident) (steps : StepTrees)

@@ -61,7 +61,7 @@ decl_within tree m at form ks there is c among =
     let number : 0 + m ≡ m = omega arith in
     in_once c (bool_kind ∷ kinds_from n 0 0 tree) (inr (appears n 0 0 tree m m at form c number there (λ before. subst (IsOneOf c) (sym (is before)) among)))
 
-query_kinds : (n : Names) (m : ℕ) (words : Bool) (q : QueryTree) → flat_map (site_kinds n) (query_sites n m words q) ≡ flat_map (site_kinds n) (query_sites n m true q)
+pub query_kinds : (n : Names) (m : ℕ) (words : Bool) (q : QueryTree) → flat_map (site_kinds n) (query_sites n m words q) ≡ flat_map (site_kinds n) (query_sites n m true q)
 query_kinds n m words (QueryTree.query x params result body) =
     let front = param_sites n m role.QueryParam params in
     let own = Site.written m role.QueryResult result in
@@ -122,7 +122,7 @@ param_sites_whole t bool k r params sound =
     let names = named_all [] (map param_name params) ++ declares_all t.names [] params in
     params_whole t bool k r params (all_parts (Sound t) names (written_all k r params) sound).1
 
-result_whole : (t : Tables) → IsOneOf bool_kind t.datatypes → (k : ℕ) (result : Option TypeTree) → AllSound t (result_sites k result)
+pub result_whole : (t : Tables) → IsOneOf bool_kind t.datatypes → (k : ℕ) (result : Option TypeTree) → AllSound t (result_sites k result)
     → AllWhole t (result_args t.names result)
 result_whole t bool k None sound = tt
 result_whole t bool k (Some ty) sound = (written_whole t bool k role.Variable ty sound.0, tt)

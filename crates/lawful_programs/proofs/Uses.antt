@@ -120,4 +120,5 @@ query_callable tree lawful b m at (QueryTree.query own params result body) there
       args_whole = params_are;
       whole = result_is;
       gives = λ keys es e h. use_valued tree lawful b m at own params result body there less ready params_are result_is p.1.1 es h;
+      acts = λ z e h. absurd cc;
     }

@@ -6,7 +6,8 @@ use Rattle.rp_lang.specs.Exprs.{Ex, Exs, no_ex, also_ex}
 use Rattle.type_rules.specs.declared.kind.Kind.{Kind}
 use Rattle.type_rules.specs.Names.{Name, Names, Entry, text_of, entry_named}
 use Rattle.type_rules.specs.Kinds.{bool_kind}
-use Rattle.type_rules.specs.Accesses.{Var, access_kind, args_of, of_entry, count}
+use Rattle.type_rules.specs.Accesses.{Var, Access, access_kind, args_of, of_entry, count}
+use Rattle.type_rules.specs.Paths.{Member, is_operation}
 use Rattle.type_rules.specs.Typing.{is_plain_access}
 use Rattle.type_rules.specs.Sites.{Site}
 use Rattle.type_rules.specs.Matches.{pattern_kinds}
@@ -16,7 +17,7 @@ use Rattle.type_rules.specs.Faults.{IsOneOf}
 use Rattle.desugaring.specs.Appearances.{site_kinds}
 use Rattle.desugaring.specs.Tables.{Tables}
 use Rattle.desugaring.specs.Values.{Value, term, formula}
-use Rattle.desugaring.specs.Callees.{stand, Vars, Called, of_access}
+use Rattle.desugaring.specs.Callees.{operation, stand, Vars, Called, of_access}
 use Rattle.desugaring.specs.Expressions.{Uses, called_with}
 use Rattle.lawful.specs.Typed.{Along, IsKnown}
 
@@ -94,6 +95,8 @@ pub record Callable (t : Tables) (uses : Uses) (vs : Vars) (x : Ident) (steps : 
   pub gives : (keys es : Exs) → count_terms keys ≡ length c.keys → count_terms es ≡ length c.args
       → Valued (access_kind t.names (of_entry t.names x steps o)) (is_plain_access t.names (of_entry t.names x steps o))
       (called_with uses c.what keys es)
+  -- an operation of the store is called by its number
+  pub acts : (m : Member) → of_entry t.names x steps o ≡ Access.member m → is_operation m.does ≡ true → (k : ℕ) × (c.what ≡ operation k)
 
 -- what the tables of a text give to the expressions of its declaration of number b
 pub record Ready (t : Tables) (b : ℕ) (uses : Uses) : Type 0 where

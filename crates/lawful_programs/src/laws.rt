@@ -4,7 +4,7 @@ ghost use Rattle.std.specs.Prelude.{◌≡◌, ℕ, List, Option, Some};
 ghost use Rattle.rp_grammar.specs.Trees.{DeclTree, ExprTree};
 ghost use Rattle.rp_lang.specs.declared.op.OpDecl.{OpDecl};
 ghost use Rattle.rp_lang.specs.declared.query.QueryDecl.{QueryDecl};
-ghost use Rattle.rp_lang.specs.Programs.{Inv, Rt};
+ghost use Rattle.rp_lang.specs.Programs.{Inv, Prog, Rt};
 ghost use Rattle.type_rules.specs.Typing.{type_of, is_plain};
 ghost use Rattle.type_rules.specs.Sites.{Scope, Want};
 ghost use Rattle.type_rules.specs.ExprSites.{expr_sites};
@@ -13,7 +13,7 @@ ghost use Rattle.desugaring.specs.Tables.{Tables, op_table, query_table, root_ta
 ghost use Rattle.desugaring.specs.Callees.{Vars};
 ghost use Rattle.desugaring.specs.Expressions.{Uses, uses_before, value};
 ghost use Rattle.desugaring.specs.Parts.{each};
-ghost use Rattle.desugaring.specs.Programs.{inv_for, invs_from};
+ghost use Rattle.desugaring.specs.Programs.{IsProgramOf, inv_for, invs_from};
 ghost use Rattle.lawful_programs.specs.Valued.{AllSound, AskedWhole, VarsWhole, Ready, Seen, Valued};
 
 /// An expression at a lawful place becomes something, where the tables of the text are ready: a
@@ -44,4 +44,9 @@ pub fn roots_are_there()
     ensures operations { (tree : List DeclTree) → IsLawful tree → (ops : List OpDecl) × (op_table (tables_of tree) ≡ Some ops) }
     ensures queries { (tree : List DeclTree) → IsLawful tree
         → (queries : List QueryDecl) × (query_table (tables_of tree) ≡ Some queries) }
+{}
+
+/// A lawful text has a program.
+pub fn texts_have_programs()
+    ensures { (tree : List DeclTree) → IsLawful tree → (p : Prog) × IsProgramOf tree p }
 {}

@@ -4,4 +4,7 @@
 
 mod laws;
 
-pub use laws::{expressions_have_values, invariants_have_values, roots_are_there, texts_are_ready};
+pub use laws::{
+    expressions_have_values, invariants_have_values, roots_are_there, texts_are_ready,
+    texts_have_programs,
+};
