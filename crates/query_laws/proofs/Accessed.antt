@@ -26,8 +26,14 @@ use Rattle.query_laws.proofs.Said.{term_said}
 
 -- # Keys and arguments
 
-pub no_keys_say : (s : Sight) → SaysKeys s [] StepTrees.no_steps no_te
-no_keys_say s given st xs e = e
+pub no_keys_say : (s : Sight) (ks : List Kind) → SaysKeys s ks StepTrees.no_steps no_te
+no_keys_say s [] given st xs e = e
+no_keys_say s (k ∷ ks) given st xs e = absurd cc
+
+-- more keys than types become nothing
+pub further_keys_say : (s : Sight) (a : ExprTree) (steps : StepTrees) (made : Tes)
+    → SaysKeys s [] (StepTrees.more_steps (StepTree.key a) steps) made
+further_keys_say s a steps made given st xs e = absurd cc
 
 pub key_says : (s : Sight) (k : Kind) (ks : List Kind) (a : ExprTree) (steps : StepTrees) (x : Te) (xs : Tes)
     → SaysTerm s (Some k) a x
@@ -46,8 +52,9 @@ pub returned_says : (s : Sight) (ks : List Kind) (at : Span) (steps : StepTrees)
 returned_says s [] at steps xs rest given st = rest given st
 returned_says s (k ∷ ks) at steps xs rest given st = rest given st
 
-pub absent_says : (s : Sight) → SaysArgs s [] ArgTrees.absent no_te
-absent_says s given st xs e = e
+pub absent_says : (s : Sight) (ks : List Kind) → SaysArgs s ks ArgTrees.absent no_te
+absent_says s [] given st xs e = e
+absent_says s (k ∷ ks) given st xs e = absurd cc
 
 pub given_says : (s : Sight) (ks : List Kind) (es : ExprTrees) (xs : Tes) → SaysTerms s ks es xs
     → SaysArgs s ks (ArgTrees.given es) xs

@@ -141,8 +141,8 @@ module _ {X : Type 0} (P : Called X → Type 0) (t : Tables) (vs : List (Stand X
   access_there (Access.misfit at) c on_use is = absurd cc
   access_there (Access.variable v) c on_use is =
       map_there P (λ s. taking [] [] (variable s.known)) (stand_named vs (text_of x)) c is on_variable
-  access_there (Access.constructor type con) c on_use is =
-      map_there P (λ k. taking [] (param_kinds t.names (con_fields con)) (constructor k)) _ c is (λ k e. on_plain _ tt)
+  access_there (Access.constructor type shape) c on_use is =
+      map_there P (λ k. taking [] (param_kinds t.names (con_fields shape)) (constructor k)) _ c is (λ k e. on_plain _ tt)
   access_there (Access.use_of k q) c on_use is = subst P (cc) (on_use k q refl)
   access_there (Access.procedure p) c on_use is =
       map_there P (λ k. taking [] (param_kinds t.names (proc_params p)) (procedure k)) _ c is (λ k e. on_plain _ tt)

@@ -19,3 +19,4 @@ pub mod Enough
 pub mod NextMeasured
 pub mod Weights
 pub mod Few
+pub mod PutLifted

@@ -216,8 +216,13 @@ some_says s asked at a con x is inside given st =
 
 -- # Plain terms of these types
 
-pub no_terms_say : (s : Sight) → SaysTerms s [] ExprTrees.no_exprs no_te
-no_terms_say s given st xs e = e
+pub no_terms_say : (s : Sight) (ks : List Kind) → SaysTerms s ks ExprTrees.no_exprs no_te
+no_terms_say s [] given st xs e = e
+no_terms_say s (k ∷ ks) given st xs e = absurd cc
+
+-- more terms than types become nothing
+pub further_terms_say : (s : Sight) (a : ExprTree) (es : ExprTrees) (made : Tes) → SaysTerms s [] (ExprTrees.more_exprs a es) made
+further_terms_say s a es made given st xs e = absurd cc
 
 pub more_terms_say : (s : Sight) (k : Kind) (ks : List Kind) (a : ExprTree) (es : ExprTrees) (x : Te) (xs : Tes)
     → SaysTerm s (Some k) a x

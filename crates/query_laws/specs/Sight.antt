@@ -104,6 +104,37 @@ pub record Stands (s : Sight) (given : Given) : Type 0 where
 
 -- # Under binders
 
+-- all variables of binders stand under so many
+abbrev mutual
+  pub LevelsIn : ℕ → Te → Type 0
+  LevelsIn bound (te.Slot s) = Unit {0}
+  LevelsIn bound (te.Param p) = Unit {0}
+  LevelsIn bound (te.Level n) = n < bound
+  LevelsIn bound (te.Int n) = Unit {0}
+  LevelsIn bound (te.Str bytes) = Unit {0}
+  LevelsIn bound (te.Con con args) = AllLevelsIn bound args
+  LevelsIn bound (te.Sum a b) = LevelsIn bound a × LevelsIn bound b
+  LevelsIn bound (te.Difference a b) = LevelsIn bound a × LevelsIn bound b
+  LevelsIn bound (te.Query query args) = AllLevelsIn bound args
+  LevelsIn bound (te.OpOf call) = LevelsIn bound call
+  LevelsIn bound (te.OpTerm op args) = AllLevelsIn bound args
+  LevelsIn bound (te.OriginOf call) = LevelsIn bound call
+  LevelsIn bound (te.InfoOf inv) = LevelsIn bound inv
+  LevelsIn bound (te.InfoTerm proc args) = AllLevelsIn bound args
+  LevelsIn bound (te.ResultOf inv) = LevelsIn bound inv
+  LevelsIn bound (te.ResultTerm proc) = Unit {0}
+  LevelsIn bound (te.ResultWith proc e) = LevelsIn bound e
+  LevelsIn bound te.Unreturned = Unit {0}
+  LevelsIn bound (te.Use decl args) = AllLevelsIn bound args
+
+  pub AllLevelsIn : ℕ → Tes → Type 0
+  AllLevelsIn bound te.no_te = Unit {0}
+  AllLevelsIn bound (te.also_te e es) = LevelsIn bound e × AllLevelsIn bound es
+
+-- the bodies that are terms stand under no binder
+abbrev pub AreClosed : put.Saids → Type 0
+AreClosed bodies = (decl : ℕ) (e : Te) → put.said_at bodies decl ≡ Some (said_term e) → LevelsIn 0 e
+
 -- with the variable of a binder more
 abbrev pub under : Sight → Name → Kind → Sight
 under s x k = record s { vars = s.vars ++ stand x k (at_level s.binders) ∷ []; binders = s.binders + 1 }

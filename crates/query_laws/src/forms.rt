@@ -92,10 +92,12 @@ pub fn atoms_are_said()
 
 /// Plain terms one after another.
 pub fn terms_are_said()
-    ensures none { (s : Sight) → SaysTerms s [] ExprTrees.no_exprs no_te }
+    ensures none { (s : Sight) (ks : List Kind) → SaysTerms s ks ExprTrees.no_exprs no_te }
     ensures more { (s : Sight) (k : Kind) (ks : List Kind) (a : ExprTree) (es : ExprTrees) (x : Te) (xs : Tes)
         → SaysTerm s (Some k) a x → SaysTerms s ks es xs
         → SaysTerms s (k ∷ ks) (ExprTrees.more_exprs a es) (also_te x xs) }
+    ensures further { (s : Sight) (a : ExprTree) (es : ExprTrees) (made : Tes)
+        → SaysTerms s [] (ExprTrees.more_exprs a es) made }
 {}
 
 /// Words on calls and invocations.
@@ -120,7 +122,9 @@ pub fn matches_are_said()
 
 /// The keys on a path, and the arguments in parentheses.
 pub fn paths_are_said()
-    ensures none { (s : Sight) → SaysKeys s [] StepTrees.no_steps no_te }
+    ensures none { (s : Sight) (ks : List Kind) → SaysKeys s ks StepTrees.no_steps no_te }
+    ensures further { (s : Sight) (a : ExprTree) (steps : StepTrees) (made : Tes)
+        → SaysKeys s [] (StepTrees.more_steps (StepTree.key a) steps) made }
     ensures key { (s : Sight) (k : Kind) (ks : List Kind) (a : ExprTree) (steps : StepTrees) (x : Te) (xs : Tes)
         → SaysTerm s (Some k) a x → SaysKeys s ks steps xs
         → SaysKeys s (k ∷ ks) (StepTrees.more_steps (StepTree.key a) steps) (also_te x xs) }
@@ -129,7 +133,7 @@ pub fn paths_are_said()
     ensures returned { (s : Sight) (ks : List Kind) (at : Span) (steps : StepTrees) (xs : Tes)
         → SaysKeys s ks steps xs
         → SaysKeys s ks (StepTrees.more_steps (StepTree.returned at) steps) xs }
-    ensures absent { (s : Sight) → SaysArgs s [] ArgTrees.absent no_te }
+    ensures absent { (s : Sight) (ks : List Kind) → SaysArgs s ks ArgTrees.absent no_te }
     ensures given { (s : Sight) (ks : List Kind) (es : ExprTrees) (xs : Tes) → SaysTerms s ks es xs
         → SaysArgs s ks (ArgTrees.given es) xs }
 {}

@@ -1,6 +1,6 @@
 //! Laws of the definitions. The functions do nothing; what they ensure is proved.
 
-ghost use Rattle.std.specs.Prelude.{◌≡◌, ◌++◌, ◌∷◌, [], ℕ, List, Option, Some, length};
+ghost use Rattle.std.specs.Prelude.{◌≡◌, ◌+◌, ◌++◌, ◌∷◌, [], ℕ, List, Option, Some, length, option_map};
 ghost use Rattle.rp_grammar.specs.Trees.{DeclTree, ParamTree, PatternTree, QueryTree};
 ghost use Rattle.rp_lang.specs.Exprs.{Ex, Exs};
 ghost use Rattle.type_rules.specs.declared.kind.Kind.{Kind};
@@ -12,9 +12,9 @@ ghost use Rattle.desugaring.specs.Values.{difference, lifted, sum};
 ghost use Rattle.desugaring.specs.Callees.{stand, vars_of};
 ghost use Rattle.desugaring.specs.Expressions as spec;
 ghost use Rattle.desugaring.specs.Programs.{InvTree, ProcDecl, inv_for, proc_for};
-ghost use Rattle.query_bodies.specs.Terms.{Said, Tes};
-ghost use Rattle.query_bodies.specs.Expanded.{Given, Saids, Uses, arguments, given_of, terms};
-ghost use Rattle.query_laws.specs.Sight.{AreUnder, Follows, Known, Sight, Stands, in_body, seen, under, under_pattern, vars_in};
+ghost use Rattle.query_bodies.specs.Terms.{Said, Te, Tes};
+ghost use Rattle.query_bodies.specs.Expanded.{Given, Saids, Uses, all_uses, arguments, given_of, term, terms};
+ghost use Rattle.query_laws.specs.Sight.{AreClosed, AreUnder, Follows, Known, LevelsIn, Sight, Stands, in_body, seen, under, under_pattern, vars_in};
 ghost use Rattle.query_laws.specs.Whole.{AreBodiesOf, AreOf, IsBodyOf, IsNext, IsSaidBody, inv_by, proc_by};
 
 /// Where all arguments of a use are terms, they are given by name as they are by value.
@@ -23,10 +23,14 @@ pub fn arguments_are_given()
         → terms uses given bound args ≡ Some es → arguments uses given bound args ≡ given_of es }
 {}
 
-/// A sum and a difference under a binder more are those of their operands there.
-pub fn sums_are_lifted()
+/// A sum and a difference under a binder more are those of their operands there, and what is made
+/// with all uses put in is what is made there.
+pub fn terms_are_lifted()
     ensures sum { (a b : Ex) → lifted (sum a b) ≡ sum (lifted a) (lifted b) }
     ensures difference { (a b : Ex) → lifted (difference a b) ≡ difference (lifted a) (lifted b) }
+    ensures put_in { (bodies : Saids) → AreClosed bodies → (given : Given) (bound : ℕ) (e : Te) → LevelsIn bound e
+        → option_map lifted (term (all_uses bodies) given bound e)
+        ≡ term (all_uses bodies) given (bound + 1) e }
 {}
 
 /// The variable of a binder is kept by the binders around it, and lifted at its use: so all

@@ -13,7 +13,7 @@ pub use forms::{
     words_are_said,
 };
 pub use laws::{
-    arguments_are_given, bodies_are_uses, names_are_told, parameters_are_given, sums_are_lifted,
+    arguments_are_given, bodies_are_uses, names_are_told, parameters_are_given, terms_are_lifted,
     uses_tell_all, variables_are_lifted,
 };
 pub use measures::{bodies_are_measured, large_values_are_past, measures_are_told};
