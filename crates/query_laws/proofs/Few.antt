@@ -36,7 +36,8 @@ few_from names n p (x ∷ params) e =
     (first, few_from names n (p + 1) params rest)
 
 pub few_params : (t : Tables) (uses : Uses) (params : List ParamTree) → AreFew (length params) (in_body t uses params).vars
-few_params t uses params = let all : 0 + length params ≡ length params = omega arith in few_from t.names (length params) 0 params all
+few_params t uses params = let all : 0 + length params ≡ length params = omega arith in few_from t.names (length params) 0
+    params all
 
 known_over : (uses : Uses) (n : ℕ) (k : Known) → IsFew n k → TermOver uses n (said_of k)
 known_over uses n (in_slot s) is = slot_over uses n s

@@ -31,7 +31,8 @@ abbrev LevelsRaised : ℕ → ℕ → Type 0
 LevelsRaised b c = (n : ℕ) → n < b → b - n - 1 + 1 ≡ c - n - 1
 
 mutual
-  term_lifted : (u : Uses) (lifts : AreLifted u) (g h : Given) (b c : ℕ) (p : ParamsRaised g b h c) (l : LevelsRaised b c) (e : Te)
+  term_lifted : (u : Uses) (lifts : AreLifted u) (g h : Given) (b c : ℕ) (p : ParamsRaised g b h c) (l : LevelsRaised b c) (e :
+      Te)
       → LevelsIn b e → option_map lifted (put.term u g b e) ≡ put.term u h c e
   term_lifted u lifts g h b c p l (te.Slot s) is = refl
   term_lifted u lifts g h b c p l (te.Param n) is = p n
@@ -59,23 +60,27 @@ mutual
   term_lifted u lifts g h b c p l (te.ResultWith proc e) is =
       map_goes lifted lifted (put.with_value proc) (put.with_value proc) _ _ (term_lifted u lifts g h b c p l e is) (λ x. refl)
   term_lifted u lifts g h b c p l (te.Sum x y) is =
-      both_goes lifted lifted lifted values.sum values.sum _ _ _ _ (term_lifted u lifts g h b c p l x is.0) (term_lifted u lifts g h b c p l y is.1)
+      both_goes lifted lifted lifted values.sum values.sum _ _ _ _ (term_lifted u lifts g h b c p l x is.0) (term_lifted u
+      lifts g h b c p l y is.1)
       sum_lifted
   term_lifted u lifts g h b c p l (te.Difference x y) is =
-      both_goes lifted lifted lifted values.difference values.difference _ _ _ _ (term_lifted u lifts g h b c p l x is.0) (term_lifted u lifts g h b c p l y is.1)
+      both_goes lifted lifted lifted values.difference values.difference _ _ _ _ (term_lifted u lifts g h b c p l x is.0)
+      (term_lifted u lifts g h b c p l y is.1)
       difference_lifted
   term_lifted u lifts g h b c p l (te.Use decl args) is =
       lifts decl (put.arguments u g b args)
       ∙ ap (λ gs. option_and_then as_term (u decl gs)) (arguments_lifted u lifts g h b c p l args is)
 
-  terms_lifted : (u : Uses) (lifts : AreLifted u) (g h : Given) (b c : ℕ) (p : ParamsRaised g b h c) (l : LevelsRaised b c) (es : Tes)
+  terms_lifted : (u : Uses) (lifts : AreLifted u) (g h : Given) (b c : ℕ) (p : ParamsRaised g b h c) (l : LevelsRaised b c) (es
+      : Tes)
       → AllLevelsIn b es → option_map all_lifted (put.terms u g b es) ≡ put.terms u h c es
   terms_lifted u lifts g h b c p l no_te is = refl
   terms_lifted u lifts g h b c p l (also_te e es) is =
       both_goes all_lifted lifted all_lifted also_ex also_ex _ _ _ _ (term_lifted u lifts g h b c p l e is.0)
       (terms_lifted u lifts g h b c p l es is.1) (λ x xs. refl)
 
-  arguments_lifted : (u : Uses) (lifts : AreLifted u) (g h : Given) (b c : ℕ) (p : ParamsRaised g b h c) (l : LevelsRaised b c) (es : Tes)
+  arguments_lifted : (u : Uses) (lifts : AreLifted u) (g h : Given) (b c : ℕ) (p : ParamsRaised g b h c) (l : LevelsRaised b c)
+      (es : Tes)
       → AllLevelsIn b es → all_given (put.arguments u g b es) ≡ put.arguments u h c es
   arguments_lifted u lifts g h b c p l no_te is = refl
   arguments_lifted u lifts g h b c p l (also_te e es) is =
