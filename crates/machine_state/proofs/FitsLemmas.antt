@@ -1,5 +1,5 @@
 -- What follows from what a state keeps.
-use Rattle.std.proofs.Common.{◌≡◌, ℕ, ◌+◌, ◌<◌, ◌≤◌, Bool, true, false, refl, sym, ap, ◌∙◌, subst, arith, List, [], ◌∷◌, map, min, get_or, length, Option, Some, None, slice_get, inl, inr}
+use Rattle.std.proofs.Common.{◌≡◌, ℕ, ◌+◌, ◌<◌, ◌≤◌, Bool, true, false, refl, sym, ap, ◌∙◌, subst, arith, List, [], map, min, get_or, length, Option, Some, None, slice_get, inl, inr}
 use Rattle.std.specs.Prelude.{not, ◌&&◌, if◌then◌else◌, option_map, option_and_then}
 use Rattle.std.specs.List.{list_any}
 use Rattle.std.proofs.lemmas.Bool.{true≢false, cases_eq, cases_lt}
@@ -24,7 +24,7 @@ use Rattle.rp_span.specs.declared.Span.{Span}
 use Rattle.event_machine.specs.Code.{Code, Return}
 use Rattle.event_machine.specs.States as seen
 use Rattle.event_machine.specs.Machine as spec
-use Rattle.event_machine.specs.WellFormed.{At, IsWellFormed, IsCausal, IsInvocation}
+use Rattle.event_machine.specs.WellFormed.{IsWellFormed}
 use Rattle.event_machine.proofs.KeptLemmas.{empty-formed}
 use Rattle.event_machine.proofs.TypedKept.{empty-typed}
 use Rattle.code_points.specs.Points.{Spot, size, codes_at, spot_in, goes_on}
@@ -36,9 +36,9 @@ use Rattle.machine_state.specs.declared.state.Standing as stood
 use Rattle.machine_state.specs.declared.state.Standing.TheVariants as stand
 use Rattle.machine_state.specs.Accessors.{is_running, next, next_inv, new_left, new_inv, new_type}
 use Rattle.machine_state.specs.StateView.{inv_view, standing_view, state_view, left_of}
-use Rattle.machine_state.specs.Fits.{Fits, HasRoom, IsKept}
+use Rattle.machine_state.specs.Fits.{Fits, HasRoom}
 use Rattle.machine_state.specs.Spots.{IsSpot}
-use Rattle.machine_state.proofs.StateLemmas.{nothing, one_found, some_at, Viewed, viewed, viewed_at}
+use Rattle.machine_state.proofs.StateLemmas.{nothing, one_found, some_at, viewed, viewed_at}
 
 abbrev empty_state : ℕ → State
 empty_state universe = record { universe = universe; history = []; owners = []; committed = []; infos = []; runs = []; generated = []; known = [] }
@@ -107,14 +107,14 @@ pub spot_is : (p : Program) (s : State) (i : ℕ) (info : Info) (run : Run) (dec
     → IsSpot (program_view p) s i (spot_in (stmts_view decl.body) 0 run.at)
 spot_is p s i info run decl is_info is_run is_decl = record {
   is = λ inv q at_i at_q.
-        let v = program_view p in
-        let same : inv_view v (calls_view s.history) info run ≡ inv = one_found (slice_get (state_view v s).invocations i) _ _ (viewed_at v s i info run is_info is_run) at_i in
-        let of_info : slice_get v.procs info.proc ≡ Some q = ap (λ (inv : seen.Invocation). slice_get v.procs inv.proc) same ∙ at_q in
-        let proc : proc_view decl ≡ q = one_found (slice_get v.procs info.proc) _ _ (proc_at p info.proc decl is_decl) of_info in
-        ap (λ (inv : seen.Invocation). inv.left) (sym same)
-        ∙ ap (λ o. left_of o run.at) of_info
-        ∙ subst (λ q. left_of (Some q) run.at ≡ goes_on (left_of (Some q)) (spot_in (stmts_view decl.body) 0 run.at) (Return q.end None)) proc
-          (whole (stmts_view decl.body) (Return decl.end None) run.at);
+      let v = program_view p in
+      let same : inv_view v (calls_view s.history) info run ≡ inv = one_found (slice_get (state_view v s).invocations i) _ _ (viewed_at v s i info run is_info is_run) at_i in
+      let of_info : slice_get v.procs info.proc ≡ Some q = ap (λ (inv : seen.Invocation). slice_get v.procs inv.proc) same ∙ at_q in
+      let proc : proc_view decl ≡ q = one_found (slice_get v.procs info.proc) _ _ (proc_at p info.proc decl is_decl) of_info in
+      ap (λ (inv : seen.Invocation). inv.left) (sym same)
+      ∙ ap (λ o. left_of o run.at) of_info
+      ∙ subst (λ q. left_of (Some q) run.at ≡ goes_on (left_of (Some q)) (spot_in (stmts_view decl.body) 0 run.at) (Return q.end None)) proc
+      (whole (stmts_view decl.body) (Return decl.end None) run.at);
 }
 
 -- what is told of the code at a spot holds of what the invocation has left
@@ -137,7 +137,7 @@ left_at p s i spot f x fits lt is told =
 pub next_is_at : (p : Program) (s : State) (i : ℕ) (info : Info) (run : Run) (decl : ProcDecl)
     → slice_get s.infos i ≡ Some info → slice_get s.runs i ≡ Some run → slice_get p.procs info.proc ≡ Some decl
     → option_map (λ (inv : seen.Invocation). spec.next_action inv.left) (slice_get (state_view (program_view p) s).invocations i)
-      ≡ Some (spec.next_action (codes_at (stmts_view decl.body) run.at (Return decl.end None)))
+    ≡ Some (spec.next_action (codes_at (stmts_view decl.body) run.at (Return decl.end None)))
 next_is_at p s i info run decl is_info is_run is_decl =
     ap (option_map (λ (inv : seen.Invocation). spec.next_action inv.left)) (viewed_at (program_view p) s i info run is_info is_run)
     ∙ ap (λ o. Some (spec.next_action (left_of o run.at))) (proc_at p info.proc decl is_decl)

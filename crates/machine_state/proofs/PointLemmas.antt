@@ -1,5 +1,5 @@
 -- The points of what comes next lie within those of the block.
-use Rattle.std.proofs.Common.{◌≡◌, ℕ, zero, suc, ◌+◌, ◌-◌, ◌<◌, ◌≤◌, nat_lt, nat_le, Bool, true, false, if◌then◌else◌, arith, Option, Some, None}
+use Rattle.std.proofs.Common.{ℕ, zero, suc, ◌+◌, ◌-◌, ◌≤◌, nat_lt, nat_le, Bool, true, false, if◌then◌else◌, arith, Option, Some, None}
 use Rattle.rp_lang.specs.Stmts as st
 use Rattle.rp_lang.specs.Stmts.{St, Sts, no_st, also_st, StArms, no_st_arm, also_st_arm}
 use Rattle.code_points.specs.Points.{inner, size, arms_size, Spot, Before, Closing, or_else, spot_inside, spot_in, spot_in_arms}
@@ -28,7 +28,7 @@ mutual
       one_way (base + inner (st.If at f then_ else_)) (nat_le n (size then_)) (spot_in then_ base n) (spot_in else_ (base + (size then_ + 1)) (n - (size then_ + 1)))
       (wider (base + size then_) (base + inner (st.If at f then_ else_)) (spot_in then_ base n) (omega arith) (spot_within then_ base n))
       (wider (base + (size then_ + 1) + size else_) (base + inner (st.If at f then_ else_)) (spot_in else_ (base + (size then_ + 1)) (n - (size then_ + 1))) (omega arith)
-        (spot_within else_ (base + (size then_ + 1)) (n - (size then_ + 1))))
+      (spot_within else_ (base + (size then_ + 1)) (n - (size then_ + 1))))
   inside (st.Match at on arms) base n = in_arms arms base n
   inside (st.Atomic at body) base n =
       first_of_two (base + (size body + 1)) (spot_in body base n) (Some (Closing (base + size body) at))
@@ -45,10 +45,10 @@ mutual
       one_way (base + size (also_st s rest)) (nat_lt n (inner s))
       (or_else (spot_inside s (base + 1) n) (spot_in rest (base + (inner s + 1)) 0)) (spot_in rest (base + (inner s + 1)) (n - inner s))
       (first_of_two (base + size (also_st s rest)) (spot_inside s (base + 1) n) (spot_in rest (base + (inner s + 1)) 0)
-        (wider (base + 1 + inner s) (base + size (also_st s rest)) (spot_inside s (base + 1) n) (omega arith) (inside s (base + 1) n))
-        (wider (base + (inner s + 1) + size rest) (base + size (also_st s rest)) (spot_in rest (base + (inner s + 1)) 0) (omega arith) (spot_within rest (base + (inner s + 1)) 0)))
+      (wider (base + 1 + inner s) (base + size (also_st s rest)) (spot_inside s (base + 1) n) (omega arith) (inside s (base + 1) n))
+      (wider (base + (inner s + 1) + size rest) (base + size (also_st s rest)) (spot_in rest (base + (inner s + 1)) 0) (omega arith) (spot_within rest (base + (inner s + 1)) 0)))
       (wider (base + (inner s + 1) + size rest) (base + size (also_st s rest)) (spot_in rest (base + (inner s + 1)) (n - inner s)) (omega arith)
-        (spot_within rest (base + (inner s + 1)) (n - inner s)))
+      (spot_within rest (base + (inner s + 1)) (n - inner s)))
 
   in_arms : (arms : StArms) (base n : ℕ) → IsWithin (base + arms_size arms) (spot_in_arms arms base n)
   in_arms no_st_arm base n = tt
@@ -56,4 +56,4 @@ mutual
       one_way (base + arms_size (also_st_arm con slots body rest)) (nat_le n (size body)) (spot_in body base n) (spot_in_arms rest (base + (size body + 1)) (n - (size body + 1)))
       (wider (base + size body) (base + arms_size (also_st_arm con slots body rest)) (spot_in body base n) (omega arith) (spot_within body base n))
       (wider (base + (size body + 1) + arms_size rest) (base + arms_size (also_st_arm con slots body rest)) (spot_in_arms rest (base + (size body + 1)) (n - (size body + 1))) (omega arith)
-        (in_arms rest (base + (size body + 1)) (n - (size body + 1))))
+      (in_arms rest (base + (size body + 1)) (n - (size body + 1))))

@@ -1,6 +1,6 @@
 -- The first refusal, part by part.
-use Rattle.std.proofs.Common.{◌≡◌, ℕ, zero, suc, ◌<◌, ◌≤◌, Bool, true, false, ◌||◌, refl, sym, ap, ◌∙◌, arith, List, [], ◌∷◌, map, length, Option, Some, None, slice_get, inl, inr}
-use Rattle.std.specs.Prelude.{nat_lt, nat_le, nat_eq, not, ◌&&◌, is_some, filter, find, option_map, option_and_then, if◌then◌else◌}
+use Rattle.std.proofs.Common.{◌≡◌, ℕ, ◌≤◌, Bool, true, false, ◌||◌, refl, sym, ap, ◌∙◌, arith, List, [], ◌∷◌, map, length, Option, Some, None, slice_get, inl, inr}
+use Rattle.std.specs.Prelude.{nat_lt, nat_le, nat_eq, not, ◌&&◌, is_some, find, option_map, option_and_then, if◌then◌else◌}
 use Rattle.std.specs.List.{list_any}
 use Rattle.std.specs.Option.{option_map_or}
 use Rattle.std.proofs.lemmas.Bool.{true≢false, cases_lt, lt-ltb, le-ltb}
@@ -22,7 +22,7 @@ use Rattle.crdt_defs.specs.Histories.{meets}
 use Rattle.crdt_defs.specs.SameValues.{same_val}
 use Rattle.event_machine.specs.Code as left
 use Rattle.event_machine.specs.Code.{Code}
-use Rattle.event_machine.specs.States.{State, Invocation, Action, ToBegin, ToOp, ToLocal, ToNew, ToCommit, ToReturn, Label, Invoke, Begin, Op, New, Check, Why, NoInvocation, NotRunning, WrongPoint, BadArgs, UnknownId, NotCommitted, NotClosed, StampUsed, StampLow, OutOfUniverse}
+use Rattle.event_machine.specs.States.{State, Invocation, Action, ToBegin, ToOp, ToLocal, ToNew, ToCommit, ToReturn, Label, Invoke, Begin, Op, New, Check, Why, NoInvocation, NotRunning, BadArgs, UnknownId, NotCommitted, NotClosed, StampLow, OutOfUniverse}
 use Rattle.event_machine.specs.Machine as spec
 use Rattle.event_machine.specs.Machine.{unless, first_why, named, action_of, refusal}
 use Rattle.machine_state.specs.Accessors.{new_left}
@@ -93,8 +93,8 @@ lt_some xs i =
 
 stands : (i : ℕ) (action : Option Action) (b : Bool) (o : Option Invocation) (rest : List (Option Why)) → b ≡ is_some o
     → first_why (unless b (NoInvocation i)
-      ∷ option_and_then (λ (inv : Invocation). unless (spec.is_running inv.standing) (NotRunning i)) o
-      ∷ option_and_then (λ (inv : Invocation). option_and_then (another_point inv) action) o ∷ rest)
+    ∷ option_and_then (λ (inv : Invocation). unless (spec.is_running inv.standing) (NotRunning i)) o
+    ∷ option_and_then (λ (inv : Invocation). option_and_then (another_point inv) action) o ∷ rest)
     ≡ either (inv_not_at i action o) (first_why rest)
 stands i action true (Some inv) rest e = two_first (unless (spec.is_running inv.standing) (NotRunning i)) (option_and_then (another_point inv) action) rest
 stands i action false None rest e = refl
@@ -104,20 +104,20 @@ stands i action false (Some inv) rest e = absurd (true≢false (sym e))
 -- the refusals, by what the label names
 abbrev by_name : Prog → State → Label → Option ℕ → Option Why
 by_name p s label o = first_why (
-  option_and_then (λ i. unless (nat_lt i (length s.invocations)) (NoInvocation i)) o
-  ∷ option_and_then (λ i. option_and_then (λ (inv : Invocation). unless (spec.is_running inv.standing) (NotRunning i)) (slice_get s.invocations i)) o
-  ∷ option_and_then (λ i. option_and_then (λ (inv : Invocation). option_and_then (another_point inv) (action_of label)) (slice_get s.invocations i)) o
-  ∷ spec.bad_args p s label ∷ spec.unknown_id p s label ∷ spec.not_committed s label ∷ spec.not_closed s label
-  ∷ spec.stamp_used s label ∷ spec.stamp_low s label ∷ spec.not_fresh s label ∷ spec.out_of_universe s label ∷ [])
+    option_and_then (λ i. unless (nat_lt i (length s.invocations)) (NoInvocation i)) o
+    ∷ option_and_then (λ i. option_and_then (λ (inv : Invocation). unless (spec.is_running inv.standing) (NotRunning i)) (slice_get s.invocations i)) o
+    ∷ option_and_then (λ i. option_and_then (λ (inv : Invocation). option_and_then (another_point inv) (action_of label)) (slice_get s.invocations i)) o
+    ∷ spec.bad_args p s label ∷ spec.unknown_id p s label ∷ spec.not_committed s label ∷ spec.not_closed s label
+    ∷ spec.stamp_used s label ∷ spec.stamp_low s label ∷ spec.not_fresh s label ∷ spec.out_of_universe s label ∷ [])
 
 -- of a label that names an invocation, first whether that is there, runs, and is at this action
 pub named_refusal : (p : Prog) (s : State) (label : Label) (i : ℕ) → named label ≡ Some i → refusal p s label ≡ either (not_at s i (action_of label)) (behind p s label)
 named_refusal p s label i e =
     ap (by_name p s label) e
     ∙ stands i (action_of label) (nat_lt i (length s.invocations)) (slice_get s.invocations i)
-      (spec.bad_args p s label ∷ spec.unknown_id p s label ∷ spec.not_committed s label ∷ spec.not_closed s label
-      ∷ spec.stamp_used s label ∷ spec.stamp_low s label ∷ spec.not_fresh s label ∷ spec.out_of_universe s label ∷ [])
-      (lt_some s.invocations i)
+    (spec.bad_args p s label ∷ spec.unknown_id p s label ∷ spec.not_committed s label ∷ spec.not_closed s label
+    ∷ spec.stamp_used s label ∷ spec.stamp_low s label ∷ spec.not_fresh s label ∷ spec.out_of_universe s label ∷ [])
+    (lt_some s.invocations i)
 
 pub unnamed_refusal : (p : Prog) (s : State) (label : Label) → named label ≡ None → refusal p s label ≡ behind p s label
 unnamed_refusal p s label e = ap (by_name p s label) e
@@ -131,8 +131,8 @@ invoke_first (Some why) b c = refl
 
 pub behind_invoke : (p : Prog) (s : State) (proc : ℕ) (args : List Val) (q : Proc) → slice_get p.procs proc ≡ Some q
     → behind p s (Invoke proc args) ≡ first_why (unless (all_fit p q.params args) BadArgs
-      ∷ option_map UnknownId (find (λ v. is_id p v && not (spec.is_known s v)) (all_atoms args))
-      ∷ option_map OutOfUniverse (find (λ v. not (is_below s.universe v)) (all_atoms args)) ∷ [])
+    ∷ option_map UnknownId (find (λ v. is_id p v && not (spec.is_known s v)) (all_atoms args))
+    ∷ option_map OutOfUniverse (find (λ v. not (is_below s.universe v)) (all_atoms args)) ∷ [])
 behind_invoke p s proc args q is =
     let test : Option Proc → Option Why = λ o. unless (option_map_or (spec.takes p args) o false) BadArgs in
     let unknown : Option Why = option_map UnknownId (find (λ v. is_id p v && not (spec.is_known s v)) (all_atoms args)) in
@@ -308,8 +308,8 @@ running_inv p s i action it =
 
 pub invoke_why : (p : Program) (s : state.State) (proc : ℕ) (args : List Value) (q : ProcDecl) → Fits p s → slice_get p.procs proc ≡ Some q
     → first_why (unless (all_fit (program_view p) q.params (map value_view args)) BadArgs
-      ∷ option_map UnknownId (find (λ v. is_id (program_view p) v && not (list_any (same_val v) (map value_view s.known))) (all_atoms (map value_view args)))
-      ∷ option_map OutOfUniverse (find (λ v. not (is_below s.universe v)) (all_atoms (map value_view args))) ∷ [])
+    ∷ option_map UnknownId (find (λ v. is_id (program_view p) v && not (list_any (same_val v) (map value_view s.known))) (all_atoms (map value_view args)))
+    ∷ option_map OutOfUniverse (find (λ v. not (is_below s.universe v)) (all_atoms (map value_view args))) ∷ [])
     ≡ behind (program_view p) (state_view (program_view p) s) (Invoke proc (map value_view args))
 invoke_why p s proc args q fits is =
     let vals : List Val = map value_view args in

@@ -1,10 +1,10 @@
 -- What a state is seen as, one invocation or transaction at a time.
-use Rattle.std.proofs.Common.{◌≡◌, ℕ, zero, suc, ◌<◌, ◌≤◌, Bool, true, false, refl, sym, ap, ◌∙◌, subst, arith, List, [], ◌∷◌, ◌++◌, map, length, Option, Some, None, slice_get, slice_set}
+use Rattle.std.proofs.Common.{◌≡◌, ℕ, zero, suc, ◌<◌, Bool, false, refl, sym, ap, ◌∙◌, arith, List, [], ◌∷◌, length, Option, Some, None, slice_get}
 use Rattle.std.specs.Prelude.{is_some, unwrap_or, not}
 use Rattle.std.specs.Option.{option_map_or}
 use Rattle.std.proofs.lemmas.Bool.{true≢false}
 use Rattle.std.proofs.Math.Path.{fun_ext}
-use Rattle.rp_lang.specs.Programs.{Prog, Proc}
+use Rattle.rp_lang.specs.Programs.{Prog}
 use Rattle.crdt_defs.specs.Calls.{Call, calls_view}
 use Rattle.crdt_defs.specs.Snapshots.{bit}
 use Rattle.crdt_truth.specs.declared.reading.Info.{Info}
@@ -77,6 +77,6 @@ tx_committed (o ∷ owners) [] tx e = absurd (omega arith)
 tx_committed (o ∷ owners) (b ∷ committed) zero e = refl
 tx_committed (o ∷ owners) (b ∷ committed) (suc tx) e = tx_committed owners committed tx (omega arith)
 
-pub open_txs : (p : Prog) (s : State) → length s.owners ≡ length s.committed 
+pub open_txs : (p : Prog) (s : State) → length s.owners ≡ length s.committed
     → ◌≡◌ {A = ℕ → Bool} (λ tx. not (bit s.committed tx)) (λ tx. not (spec.is_committed (state_view p s) tx))
 open_txs p s e = fun_ext (λ tx. ap not (sym (tx_committed s.owners s.committed tx e)))

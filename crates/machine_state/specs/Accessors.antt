@@ -1,6 +1,5 @@
 -- What is asked of a state.
-use Rattle.std.specs.Prelude.{◌≡◌, ℕ, Bool, true, false, List, Option, Some, None, option_and_then, slice_get, if◌then◌else◌}
-use Rattle.rp_lang.specs.declared.program.Program.{Program}
+use Rattle.std.specs.Prelude.{ℕ, Bool, true, false, Option, Some, None, option_and_then, slice_get, if◌then◌else◌}
 use Rattle.rp_value.specs.declared.value.Value.{Value}
 use Rattle.crdt_truth.specs.declared.reading.Info.{Info}
 use Rattle.crdt_truth.specs.declared.reading.Outcome.{Outcome}

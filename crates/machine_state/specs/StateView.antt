@@ -1,6 +1,5 @@
 -- The state that definitions speak of, of a state of the code.
 use Rattle.std.specs.Prelude.{ℕ, Bool, List, [], ◌∷◌, Option, Some, None, map, option_map, slice_get}
-use Rattle.rp_span.specs.declared.Span.{Span}
 use Rattle.rp_value.specs.Values.{Val}
 use Rattle.rp_value.specs.ValueView.{value_view}
 use Rattle.rp_lang.specs.Programs.{Prog, Proc}

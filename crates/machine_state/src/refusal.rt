@@ -13,7 +13,9 @@ ghost use Rattle.machine_state.specs.StepView.{why_view, label_view};
 ghost use Rattle.machine_state.specs.Fits.{Fits, StepFits};
 
 use crate::state::State;
-use machine_tests::{are_of, greatest_stamp, has_atom, has_stamp, least_open, missing, outside, unknown};
+use machine_tests::{
+    are_of, greatest_stamp, has_atom, has_stamp, least_open, missing, outside, unknown,
+};
 use rp_lang::{Action, Program, Refusal, Step};
 use rp_value::{Memory, Value};
 use std::alloc::Global;

@@ -1,12 +1,12 @@
 -- Identifiers and opaque values inside values, one value at a time.
-use Rattle.std.proofs.Common.{◌≡◌, ℕ, ◌+◌, ◌<◌, ◌≤◌, Bool, refl, sym, ap, ◌∙◌, List, [], ◌∷◌, ◌++◌, map, length, get_or, drop, Option, Some, None}
+use Rattle.std.proofs.Common.{◌≡◌, ℕ, ◌+◌, ◌<◌, ◌≤◌, Bool, refl, sym, ap, ◌∙◌, List, [], ◌∷◌, ◌++◌, map, length, get_or, drop, Some, None}
 use Rattle.std.specs.Prelude.{find}
 use Rattle.std.specs.Option.{option_or}
 use Rattle.std.proofs.lemmas.List.{drop_more, drop_all}
 use Rattle.std.proofs.lemmas.List.Folds.{find-append}
 use Rattle.rp_value.specs.declared.value.Value.{Value}
 use Rattle.rp_value.specs.Values.{Val}
-use Rattle.rp_value.specs.ValueView.{value_view, values_view, vals_of}
+use Rattle.rp_value.specs.ValueView.{value_view, values_view}
 use Rattle.crdt_defs.specs.Fitting.{atoms, atoms_in_fields, all_atoms}
 
 pub atoms_listed : (vs : List Value) → atoms_in_fields (values_view vs) ≡ all_atoms (map value_view vs)

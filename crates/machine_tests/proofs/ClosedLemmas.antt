@@ -3,10 +3,10 @@ use Rattle.std.proofs.Common.{◌≡◌, ℕ, zero, suc, ◌+◌, ◌<◌, ◌�
 use Rattle.std.specs.Prelude.{All}
 use Rattle.std.proofs.lemmas.List.Elements.{All-head, All-tail}
 use Rattle.std.proofs.lemmas.Option.{slice_get_within}
-use Rattle.std.proofs.lemmas.Bool.{and_from, and_parts, or_left, or_right, or_cases, cases_Bool, cases_lt, cases_eq, true≢false, true_from_ne_false, false_from_ne_true, eq-eqb, ne_eqb, eqb-true}
+use Rattle.std.proofs.lemmas.Bool.{and_from, and_parts, or_left, or_right, or_cases, cases_Bool, cases_eq, true≢false, false_from_ne_true, eq-eqb, ne_eqb, eqb-true}
 use Rattle.crdt_defs.specs.Calls.{Call}
 use Rattle.crdt_defs.specs.Counting.{any_below, first_below, or_this}
-use Rattle.crdt_defs.specs.Histories.{IsHistory, before, meets, call_is, some_call, past_of}
+use Rattle.crdt_defs.specs.Histories.{IsHistory, before, meets, some_call, past_of}
 use Rattle.crdt_defs.specs.Meaning.{is_before_one}
 use Rattle.crdt_defs.specs.Snapshots.{bit}
 use Rattle.crdt_defs.proofs.BelowLemmas.{any_found, none_below}

@@ -5,7 +5,7 @@ use Rattle.std.proofs.lemmas.Bool.{and_right}
 use Rattle.rp_value.specs.declared.tables.Ty.{Ty}
 use Rattle.rp_value.specs.declared.value.Value.{Value}
 use Rattle.rp_value.specs.Values.{Val, Con, Vals, no_val, also_val}
-use Rattle.rp_value.specs.ValueView.{value_view, values_view, vals_of}
+use Rattle.rp_value.specs.ValueView.{value_view, values_view}
 use Rattle.rp_lang.specs.Programs.{Prog}
 use Rattle.crdt_defs.specs.Fitting.{fits, fields_fit, all_fit}
 

@@ -1,4 +1,4 @@
-use Rattle.std.proofs.Common.{◌≤◌, true, false, length, sym, refl, ◌∙◌, arith}
+use Rattle.std.proofs.Common.{◌≤◌, length, sym, refl, arith}
 use Rattle.std.proofs.lemmas.Bool.{true≢false}
 use Rattle.machine_state.proofs.FitsLemmas.{no_room, room_more, all_room}
 use Rattle.machine_state.proofs.state.has_room.Goals as goal

@@ -1,4 +1,4 @@
-use Rattle.std.proofs.Common.{◌≡◌, ◌<◌, List, None, Some, ap, sym, subst, ◌∙◌}
+use Rattle.std.proofs.Common.{◌<◌, List, None, Some, ap, sym, subst, ◌∙◌}
 use Rattle.rp_lang.specs.declared.stmt.Stmt.{Stmt}
 use Rattle.rp_lang.specs.Views.{stmts_view}
 use Rattle.event_machine.specs.Code.{Return}

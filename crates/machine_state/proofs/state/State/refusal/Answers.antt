@@ -1,4 +1,4 @@
-use Rattle.std.proofs.Common.{◌≡◌, ap, sym, subst, ◌∙◌}
+use Rattle.std.proofs.Common.{◌≡◌, subst}
 use Rattle.std.specs.Prelude.{option_map, IfOk}
 use Rattle.rp_lang.specs.ProgramView.{program_view}
 use Rattle.machine_state.specs.StateView.{state_view}

@@ -1,4 +1,4 @@
-use Rattle.std.proofs.Common.{◌≡◌, true, None, Some, List, map, not, ◌&&◌, ap, sym, ◌∙◌, refl}
+use Rattle.std.proofs.Common.{Some, List, map, not, ◌&&◌, ap, sym, ◌∙◌}
 use Rattle.std.specs.Prelude.{find}
 use Rattle.std.specs.List.{list_any}
 use Rattle.rp_value.specs.declared.value.Value.{Value}

@@ -1,4 +1,4 @@
-use Rattle.std.proofs.Common.{◌≡◌, ◌<◌, true, Some, length, ap, sym, ◌∙◌, refl, arith}
+use Rattle.std.proofs.Common.{ap, sym, ◌∙◌}
 use Rattle.rp_value.specs.ValueView.{value_view}
 use Rattle.rp_value.proofs.ValueViews.{value_view-Int, value_view-Str, value_view-Atom, value_view-Con, value_view-Call, value_view-Inv}
 use Rattle.rp_lang.specs.ProgramView.{program_view}

@@ -1,10 +1,8 @@
-use Rattle.std.proofs.Common.{◌≡◌, ◌+◌, ◌<◌, List, ap, sym, subst, ◌∙◌, arith}
-use Rattle.std.specs.Prelude.{option_map}
+use Rattle.std.proofs.Common.{◌+◌, ◌<◌, List, ap, sym, subst, ◌∙◌, arith}
 use Rattle.rp_lang.specs.declared.stmt.Stmt.{Stmt}
 use Rattle.rp_lang.specs.ProgramView.{program_view}
 use Rattle.rp_lang.specs.Views.{stmts_view}
 use Rattle.code_points.specs.Points.{size, spot_in}
-use Rattle.code_points.specs.PointView.{spot_view}
 use Rattle.machine_state.specs.Spots.{IsSpot, IsWithin}
 use Rattle.machine_state.proofs.StateLemmas.{some_at}
 use Rattle.machine_state.proofs.PointLemmas.{wider, spot_within}

@@ -1,4 +1,4 @@
-use Rattle.std.proofs.Common.{◌≡◌, ℕ, ◌≤◌, Bool, None, Some, List, length, not, ap, sym, ◌∙◌, refl, arith}
+use Rattle.std.proofs.Common.{ℕ, ◌≤◌, Bool, List, length, not, ap, sym, ◌∙◌, refl, arith}
 use Rattle.std.specs.Prelude.{filter}
 use Rattle.rp_lang.specs.ProgramView.{program_view}
 use Rattle.crdt_defs.specs.Counting.{first_below}
