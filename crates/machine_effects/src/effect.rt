@@ -175,7 +175,8 @@ pub fn commit(s: &mut State, p: &Program, i: u32) -> Result<Event, StepErr>
 /// The invocation has failed.
 pub fn fail(s: &mut State, i: u32) -> Event
     requires within { i < length s.old.runs }
-    ensures { (p : Program) (run : Run) → Fits p s.old → At s.old.runs i run → is_running run.standing ≡ true → Does p s.old (label.Fail i) s.new result }
+    ensures { (p : Program) (run : Run) → Fits p s.old → At s.old.runs i run → is_running run.standing ≡ true
+        → Does p s.old (label.Fail i) s.new result }
 {
     s.runs.stand(i, Standing::Failed);
     Event::Moved

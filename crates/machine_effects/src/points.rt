@@ -66,7 +66,8 @@ pub(crate) fn behind_end(s: &State, p: &Program, i: u32) -> Option<u64>
 #[tactic(auto, using(rp_lang::proofs::StmtViews::stmt_views))]
 fn new_point(at: u64, stmt: &Stmt) -> Option<(u32, u64)>
     requires { at + 1 < 18446744073709551616 }
-    ensures { (left : ℕ → Code) → option_map (λ found. (found.0, left found.1)) result ≡ lefts.new (does_at left at (stmt_view stmt.now)) }
+    ensures { (left : ℕ → Code) → option_map (λ found. (found.0, left found.1)) result
+        ≡ lefts.new (does_at left at (stmt_view stmt.now)) }
 {
     match &stmt.what {
         StmtKind::New(slot, _) => Some((*slot, at + 1)),
@@ -87,7 +88,8 @@ pub(crate) fn behind_new(s: &State, p: &Program, i: u32) -> Option<(u32, u64)>
     requires fits { Fits p.now s.now }
     requires within { i < length s.now.infos }
     ensures { (inv : Invocation) → At (state_view (program_view p.now) s.now).invocations i inv
-        → option_map (λ found. (found.0, left_of (slice_get (program_view p.now).procs inv.proc) found.1)) result ≡ lefts.new inv.left }
+        → option_map (λ found. (found.0, left_of (slice_get (program_view p.now).procs inv.proc) found.1)) result
+        ≡ lefts.new inv.left }
 {
     match s.spot(p, i) {
         Some(Spot::Before(at, stmt)) => new_point(at, stmt),
@@ -100,7 +102,8 @@ pub(crate) fn behind_new(s: &State, p: &Program, i: u32) -> Option<(u32, u64)>
 #[tactic(auto, using(rp_lang::proofs::StmtViews::stmt_views))]
 fn operation_point<'a>(at: u64, stmt: &'a Stmt) -> Option<(u32, &'a [Expr], u64)>
     requires { at + 1 < 18446744073709551616 }
-    ensures { (left : ℕ → Code) → option_map (λ found. (found.0, exprs_view found.1.now, left found.2)) result ≡ lefts.operation (does_at left at (stmt_view stmt.now)) }
+    ensures { (left : ℕ → Code) → option_map (λ found. (found.0, exprs_view found.1.now, left found.2)) result
+        ≡ lefts.operation (does_at left at (stmt_view stmt.now)) }
 {
     match &stmt.what {
         StmtKind::Operate(op, args) => Some((*op, args.as_slice(), at + 1)),
@@ -121,7 +124,8 @@ pub fn behind_operation<'a>(s: &State, p: &'a Program, i: u32) -> Option<(u32, &
     requires fits { Fits p.now s.now }
     requires within { i < length s.now.infos }
     ensures { (inv : Invocation) → At (state_view (program_view p.now) s.now).invocations i inv
-        → option_map (λ found. (found.0, exprs_view found.1.now, left_of (slice_get (program_view p.now).procs inv.proc) found.2)) result ≡ lefts.operation inv.left }
+        → option_map (λ found. (found.0, exprs_view found.1.now, left_of (slice_get (program_view p.now).procs inv.proc) found.2))
+        result ≡ lefts.operation inv.left }
 {
     match s.spot(p, i) {
         Some(Spot::Before(at, stmt)) => operation_point(at, stmt),
@@ -133,7 +137,8 @@ pub fn behind_operation<'a>(s: &State, p: &'a Program, i: u32) -> Option<(u32, &
 /// The expression whose value the statement at this point returns.
 #[tactic(auto, using(rp_lang::proofs::StmtViews::stmt_views))]
 fn returned_by<'a>(_at: u64, stmt: &'a Stmt) -> Option<&'a Expr>
-    ensures { (left : ℕ → Code) → option_map expr_view (option_copied result) ≡ lefts.result (does_at left _at (stmt_view stmt.now)) }
+    ensures { (left : ℕ → Code) → option_map expr_view (option_copied result)
+        ≡ lefts.result (does_at left _at (stmt_view stmt.now)) }
 {
     match &stmt.what {
         StmtKind::Return(Some(e)) => Some(e),

@@ -57,7 +57,8 @@ impl Table<Run> {
     /// The invocation sees these transactions, tx is its open one, and it goes on from the point.
     pub fn see(&mut self, i: u32, seen: List<u32>, tx: u32, at: u64)
         requires { i < length self.old }
-        ensures { (run : Run) → At self.old i run → self.new ≡ slice_set self.old i (record run { seen = seen; tx = Some tx; at = at }) }
+        ensures { (run : Run) → At self.old i run
+            → self.new ≡ slice_set self.old i (record run { seen = seen; tx = Some tx; at = at }) }
     {
         let run = &mut self.items[i as usize];
         run.seen = seen;
@@ -69,7 +70,8 @@ impl Table<Run> {
     /// changes.
     pub fn close(&mut self, i: u32, tx: u32, at: u64) -> Result<(), Memory>
         requires { i < length self.old }
-        ensures ok { OnOk result ((run : Run) → At self.old i run → self.new ≡ slice_set self.old i (record run { seen = run.seen ++ tx ∷ []; tx = None; at = at })) }
+        ensures ok { OnOk result ((run : Run) → At self.old i run
+            → self.new ≡ slice_set self.old i (record run { seen = run.seen ++ tx ∷ []; tx = None; at = at })) }
         ensures err { OnErr result (self.new ≡ self.old) }
     {
         let run = &mut self.items[i as usize];
@@ -90,7 +92,8 @@ impl Table<Run> {
     /// The value is put into the slot, where there is one.
     pub fn put(&mut self, i: u32, slot: u32, value: Value)
         requires { i < length self.old }
-        ensures { (run : Run) → At self.old i run → self.new ≡ slice_set self.old i (record run { slots = slice_set run.slots slot (Some value) }) }
+        ensures { (run : Run) → At self.old i run
+            → self.new ≡ slice_set self.old i (record run { slots = slice_set run.slots slot (Some value) }) }
     {
         self.items[i as usize].slots.replace(slot, Some(value));
     }

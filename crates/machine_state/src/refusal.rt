@@ -88,7 +88,8 @@ fn is_type(ty: u32, asked: Option<u32>) -> bool
 /// Where the next action is another one.
 fn another_point(action: Option<Action>, next: Action) -> Option<Refusal>
     ensures { (inv : seen.Invocation) → spec.next_action inv.left ≡ action_view next
-        → option_map why_view result ≡ spec.first_why (option_and_then (refusals.another_point inv) (option_map action_view action) ∷ []) }
+        → option_map why_view result
+        ≡ spec.first_why (option_and_then (refusals.another_point inv) (option_map action_view action) ∷ []) }
 {
     match action {
         Some(action) => if is_same(action, next) {
@@ -104,7 +105,8 @@ impl State {
     /// Where the invocation can't do the action: there is none, it isn't running, or it does something else next.
     fn not_at(&self, p: &Program, i: u32, action: Option<Action>) -> Option<Refusal>
         requires { Fits p.now self.now }
-        ensures why { option_map why_view result ≡ refusals.not_at (state_view (program_view p.now) self.now) i (option_map action_view action) }
+        ensures why { option_map why_view result
+            ≡ refusals.not_at (state_view (program_view p.now) self.now) i (option_map action_view action) }
         ensures within { result ≡ None → i < length self.now.runs }
     {
         if i >= self.runs.count() {
@@ -126,7 +128,9 @@ impl State {
     ) -> Result<Option<Refusal>, Memory>
         requires fits { Fits p.now self.now }
         requires within { proc < length p.now.procs }
-        ensures { IfOk result (λ why. option_map why_view why ≡ refusals.behind (program_view p.now) (state_view (program_view p.now) self.now) (seen.Invoke proc (map value_view args.now))) }
+        ensures { IfOk result (λ why. option_map why_view why
+            ≡ refusals.behind (program_view p.now) (state_view (program_view p.now) self.now)
+            (seen.Invoke proc (map value_view args.now))) }
     {
         if !are_of(args, p, p.procs.get(proc as usize).params.as_slice()) {
             return Ok(Some(Refusal::BadArgs));
@@ -163,7 +167,8 @@ impl State {
     fn refused_new(&self, p: &Program, i: u32, id: &Value) -> Option<Refusal>
         requires fits { Fits p.now self.now }
         requires within { i < length self.now.runs }
-        ensures { option_map why_view result ≡ refusals.behind (program_view p.now) (state_view (program_view p.now) self.now) (seen.New i (value_view id.now)) }
+        ensures { option_map why_view result
+            ≡ refusals.behind (program_view p.now) (state_view (program_view p.now) self.now) (seen.New i (value_view id.now)) }
     {
         match id {
             Value::Atom { ty, num } => self.refused_atom(self.new_of(p, i), *ty, *num),
@@ -180,7 +185,8 @@ impl State {
         requires fits { Fits p.now self.now }
         requires sees { IsStrictlyIncreasing sees.now }
         requires earlier { IsStrictlyIncreasing earlier.now }
-        ensures { option_map why_view result ≡ refusals.unseeable (state_view (program_view p.now) self.now) sees.now earlier.now }
+        ensures { option_map why_view result
+            ≡ refusals.unseeable (state_view (program_view p.now) self.now) sees.now earlier.now }
     {
         match least_open(self.committed.as_slice(), sees) {
             Some(tx) => return Some(Refusal::NotCommitted(tx)),
@@ -213,7 +219,8 @@ impl State {
         requires fits { Fits p.now self.now }
         requires within { i < length self.now.runs }
         requires sees { IsStrictlyIncreasing sees.now }
-        ensures { option_map why_view result ≡ refusals.behind (program_view p.now) (state_view (program_view p.now) self.now) (seen.Begin i stamp sees.now) }
+        ensures { option_map why_view result
+            ≡ refusals.behind (program_view p.now) (state_view (program_view p.now) self.now) (seen.Begin i stamp sees.now) }
     {
         match self.unseeable(p, sees, self.runs.get(i).seen.as_slice()) {
             Some(why) => Some(why),
@@ -225,7 +232,8 @@ impl State {
     fn refused_op(&self, p: &Program, i: u32, stamp: u64) -> Option<Refusal>
         requires fits { Fits p.now self.now }
         requires within { i < length self.now.runs }
-        ensures { option_map why_view result ≡ refusals.behind (program_view p.now) (state_view (program_view p.now) self.now) (seen.Op i stamp) }
+        ensures { option_map why_view result
+            ≡ refusals.behind (program_view p.now) (state_view (program_view p.now) self.now) (seen.Op i stamp) }
     {
         let run = self.runs.get(i);
         self.bad_stamp(stamp, run.seen.as_slice(), run.tx)
@@ -235,7 +243,8 @@ impl State {
     fn refused_check(&self, p: &Program, sees: &[u32]) -> Option<Refusal>
         requires fits { Fits p.now self.now }
         requires sees { IsStrictlyIncreasing sees.now }
-        ensures { option_map why_view result ≡ refusals.behind (program_view p.now) (state_view (program_view p.now) self.now) (seen.Check sees.now) }
+        ensures { option_map why_view result
+            ≡ refusals.behind (program_view p.now) (state_view (program_view p.now) self.now) (seen.Check sees.now) }
     {
         self.unseeable(p, sees, &[])
     }
@@ -250,7 +259,8 @@ impl State {
         requires fits { Fits p.now self.now }
         requires step { StepFits p.now step.now }
         requires within { (i : ℕ) → spec.named (label_view step.now) ≡ Some i → i < length self.now.runs }
-        ensures { IfOk result (λ why. option_map why_view why ≡ refusals.behind (program_view p.now) (state_view (program_view p.now) self.now) (label_view step.now)) }
+        ensures { IfOk result (λ why. option_map why_view why
+            ≡ refusals.behind (program_view p.now) (state_view (program_view p.now) self.now) (label_view step.now)) }
     {
         match step {
             Step::Invoke { proc, args } => self.refused_invoke(alloc, p, *proc, args.as_slice()),
@@ -279,7 +289,8 @@ impl State {
     ) -> Result<Option<Refusal>, Memory>
         requires fits { Fits p.now self.now }
         requires step { StepFits p.now step.now }
-        ensures { IfOk result (λ why. option_map why_view why ≡ spec.refusal (program_view p.now) (state_view (program_view p.now) self.now) (label_view step.now)) }
+        ensures { IfOk result (λ why. option_map why_view why
+            ≡ spec.refusal (program_view p.now) (state_view (program_view p.now) self.now) (label_view step.now)) }
     {
         match named(step) {
             Some(inv) => match self.not_at(p, inv, action_of(step)) {

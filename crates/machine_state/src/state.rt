@@ -242,7 +242,8 @@ impl State {
     pub(crate) fn next_of(&self, p: &Program, inv: u32) -> Action
         requires fits { Fits p.now self.now }
         requires within { inv < length self.now.infos }
-        ensures { option_map (λ i. spec.next_action i.left) (slice_get (state_view (program_view p.now) self.now).invocations inv) ≡ Some (action_view result) }
+        ensures { option_map (λ i. spec.next_action i.left)
+            (slice_get (state_view (program_view p.now) self.now).invocations inv) ≡ Some (action_view result) }
     {
         next_at(self.decl_of(p, inv).body.as_slice(), self.runs.get(inv).at)
     }
@@ -251,7 +252,8 @@ impl State {
     pub(crate) fn new_of(&self, p: &Program, inv: u32) -> Option<u32>
         requires fits { Fits p.now self.now }
         requires within { inv < length self.now.infos }
-        ensures { option_map (λ i. asked.new_left i.left) (slice_get (state_view (program_view p.now) self.now).invocations inv) ≡ Some result }
+        ensures { option_map (λ i. asked.new_left i.left)
+            (slice_get (state_view (program_view p.now) self.now).invocations inv) ≡ Some result }
     {
         match self.spot(p, inv) {
             Some(Spot::Before(at, stmt)) => new_by(at, stmt),

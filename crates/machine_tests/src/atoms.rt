@@ -39,7 +39,8 @@ pub fn has_atom(values: &[Value], of: u32, number: u32) -> bool
 
 /// Whether it is an identifier, and none of those that are known.
 fn is_unknown(p: &Program, known: &[Value], of: u32, number: u32) -> bool
-    ensures { result ≡ (spec.is_id (program_view p.now) (Atom of number) && not (list_any (same_val (Atom of number)) (map value_view known.now))) }
+    ensures { result ≡ (spec.is_id (program_view p.now) (Atom of number)
+        && not (list_any (same_val (Atom of number)) (map value_view known.now))) }
 {
     names_ids(p, of) && !has_atom(known, of, number)
 }
@@ -49,7 +50,8 @@ fn is_unknown(p: &Program, known: &[Value], of: u32, number: u32) -> bool
 #[tactic(auto, using(rp_value::proofs::ValueViews::value_views, crate::proofs::AtomLemmas::atoms_listed))]
 fn unknown_in<'a>(value: &'a Value, p: &Program, known: &[Value]) -> Option<&'a Value>
     ensures { option_map value_view (option_copied result)
-        ≡ find (λ v. spec.is_id (program_view p.now) v && not (list_any (same_val v) (map value_view known.now))) (spec.atoms (value_view value.now)) }
+        ≡ find (λ v. spec.is_id (program_view p.now) v && not (list_any (same_val v) (map value_view known.now)))
+        (spec.atoms (value_view value.now)) }
 {
     match value {
         Value::Atom { ty, num } => if is_unknown(p, known, *ty, *num) {
@@ -70,7 +72,8 @@ fn unknown_in<'a>(value: &'a Value, p: &Program, known: &[Value]) -> Option<&'a 
 #[tactic(auto, using(crate::proofs::AtomLemmas::found_more))]
 pub fn unknown<'a>(values: &'a [Value], p: &Program, known: &[Value]) -> Option<&'a Value>
     ensures { option_map value_view (option_copied result)
-        ≡ find (λ v. spec.is_id (program_view p.now) v && not (list_any (same_val v) (map value_view known.now))) (spec.all_atoms (map value_view values.now)) }
+        ≡ find (λ v. spec.is_id (program_view p.now) v && not (list_any (same_val v) (map value_view known.now)))
+        (spec.all_atoms (map value_view values.now)) }
 {
     for value in values {
         match unknown_in(value, p, known) {
@@ -85,7 +88,8 @@ pub fn unknown<'a>(values: &'a [Value], p: &Program, known: &[Value]) -> Option<
 #[cycle(outside)]
 #[tactic(auto, using(rp_value::proofs::ValueViews::value_views, crate::proofs::AtomLemmas::atoms_listed))]
 fn outside_in(value: &Value, universe: u32) -> Option<&Value>
-    ensures { option_map value_view (option_copied result) ≡ find (λ v. not (spec.is_below universe v)) (spec.atoms (value_view value.now)) }
+    ensures { option_map value_view (option_copied result)
+        ≡ find (λ v. not (spec.is_below universe v)) (spec.atoms (value_view value.now)) }
 {
     match value {
         Value::Atom { ty: _, num } => if *num < universe { None } else { Some(value) },
@@ -101,7 +105,8 @@ fn outside_in(value: &Value, universe: u32) -> Option<&Value>
 #[cycle(outside)]
 #[tactic(auto, using(crate::proofs::AtomLemmas::found_more))]
 pub fn outside(values: &[Value], universe: u32) -> Option<&Value>
-    ensures { option_map value_view (option_copied result) ≡ find (λ v. not (spec.is_below universe v)) (spec.all_atoms (map value_view values.now)) }
+    ensures { option_map value_view (option_copied result)
+        ≡ find (λ v. not (spec.is_below universe v)) (spec.all_atoms (map value_view values.now)) }
 {
     for value in values {
         match outside_in(value, universe) {

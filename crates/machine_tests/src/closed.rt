@@ -24,7 +24,8 @@ pub fn missing(h: &History, txs: u32, sees: &[u32], earlier: &[u32]) -> Option<u
     requires few { txs ≤ length h.now }
     requires sees { IsStrictlyIncreasing sees.now }
     requires earlier { IsStrictlyIncreasing earlier.now }
-    ensures { (s : State) → s.calls ≡ calls_view h.now → result ≡ first_below (spec.is_missing s sees.now (spec.calls_of s.calls earlier.now)) txs }
+    ensures { (s : State) → s.calls ≡ calls_view h.now
+        → result ≡ first_below (spec.is_missing s sees.now (spec.calls_of s.calls earlier.now)) txs }
 {
     let mut causes = [false; MOST];
     mark_causes(h, sees, &mut causes);
@@ -96,7 +97,9 @@ fn mark_needed(h: &History, earlier: &[u32], causes: &[bool], row: &mut [bool])
     requires row { length row.old ≡ 16384 }
     requires none { (t : ℕ) → bit row.old t ≡ false }
     ensures row { length row.new ≡ 16384 }
-    ensures needed { (t : ℕ) → t < 16384 → bit row.new t ≡ is_needed (calls_view h.now) (λ c. spec.calls_of (calls_view h.now) earlier.now c || bit causes.now c) t (length (calls_view h.now)) }
+    ensures needed { (t : ℕ) → t < 16384 → bit row.new t
+        ≡ is_needed (calls_view h.now) (λ c. spec.calls_of (calls_view h.now) earlier.now c || bit causes.now c) t
+        (length (calls_view h.now)) }
 {
     for c in 0..h.len() {
         if is_wanted(h, earlier, causes, c) {

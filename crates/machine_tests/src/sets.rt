@@ -55,7 +55,8 @@ pub fn calls_read(
 ) -> Result<List<u32>, Memory>
     requires { IsStrictlyIncreasing sees.now }
     ensures calls { IfOk result (λ calls. calls
-        ≡ spec.listed (λ c. spec.calls_of (calls_view h.now) sees.now c || spec.own_calls (calls_view h.now) tx c) (length (calls_view h.now))) }
+        ≡ spec.listed (λ c. spec.calls_of (calls_view h.now) sees.now c || spec.own_calls (calls_view h.now) tx c)
+        (length (calls_view h.now))) }
     ensures ascending { IfOk result (λ calls. IsStrictlyIncreasing calls) }
 {
     let mut calls = List::new(alloc);

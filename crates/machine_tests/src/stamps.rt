@@ -34,7 +34,9 @@ pub fn has_stamp(h: &History, stamp: u64) -> bool
 fn stamp_read(h: &History, sees: &[u32], tx: Option<u32>, c: u32) -> u64
     requires ascending { IsStrictlyIncreasing sees.now }
     requires within { c < length h.now }
-    ensures { result ≡ (if spec.calls_of (calls_view h.now) sees.now c || spec.own_calls (calls_view h.now) tx c then stamp_of (slice_get (calls_view h.now) c) else 0) }
+    ensures { result
+        ≡ (if spec.calls_of (calls_view h.now) sees.now c || spec.own_calls (calls_view h.now) tx c
+        then stamp_of (slice_get (calls_view h.now) c) else 0) }
 {
     if is_read(h, sees, tx, c) {
         h.call(c).stamp
@@ -48,7 +50,8 @@ fn stamp_read(h: &History, sees: &[u32], tx: Option<u32>, c: u32) -> u64
 pub fn greatest_stamp(h: &History, sees: &[u32], tx: Option<u32>) -> u64
     requires { IsStrictlyIncreasing sees.now }
     ensures { result
-        ≡ spec.greatest_stamp (calls_view h.now) (λ c. spec.calls_of (calls_view h.now) sees.now c || spec.own_calls (calls_view h.now) tx c) (length (calls_view h.now)) }
+        ≡ spec.greatest_stamp (calls_view h.now)
+        (λ c. spec.calls_of (calls_view h.now) sees.now c || spec.own_calls (calls_view h.now) tx c) (length (calls_view h.now)) }
 {
     let mut greatest: u64 = 0;
     for c in 0..h.len() {
