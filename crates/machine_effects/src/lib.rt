@@ -4,8 +4,10 @@
 
 mod effect;
 mod error;
+mod laws;
 mod points;
 
 pub use effect::{begin, commit, fail, invoke, make};
 pub use error::StepErr;
+pub use laws::states_fit;
 pub use points::{behind_operation, returned};
