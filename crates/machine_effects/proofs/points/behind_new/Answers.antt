@@ -1,0 +1,22 @@
+use Rattle.std.proofs.Common.{None, Some, ap, sym, ◌∙◌, refl}
+use Rattle.std.specs.Prelude.{option_map}
+use Rattle.event_machine.specs.Code.{Return}
+use Rattle.code_points.specs.Points.{goes_on}
+use Rattle.code_points.specs.PointView.{spot_view}
+use Rattle.machine_state.proofs.FitsLemmas.{left_by}
+use Rattle.machine_effects.specs.means.Lefts as lefts
+use Rattle.machine_effects.proofs.points.behind_new.Goals as goal
+
+pub returns-in-Some-Before : goal.returns-in-Some-Before
+returns-in-Some-Before c = λ inv at_inv.
+    sym (left_by c.args.p.now c.args.s.now c.args.i _ lefts.new (λ left. option_map (λ found. (found.0, left found.1)) c.new_point.result) c.requires.fits c.in-Some-Before.ensures.is
+    (λ left end. ap (λ s. lefts.new (goes_on left (Some (spot_view s)) (Return end None))) c.in-Some-Before.field-0-is ∙ sym (c.new_point.ensures left)) inv at_inv)
+
+pub returns-in-Some-Closing : goal.returns-in-Some-Closing
+returns-in-Some-Closing c = λ inv at_inv.
+    sym (left_by c.args.p.now c.args.s.now c.args.i _ lefts.new (λ left. None) c.requires.fits c.in-Some-Closing.ensures.is
+    (λ left end. ap (λ s. lefts.new (goes_on left (Some (spot_view s)) (Return end None))) c.in-Some-Closing.field-0-is) inv at_inv)
+
+pub returns-in-None : goal.returns-in-None
+returns-in-None c = λ inv at_inv.
+    sym (left_by c.args.p.now c.args.s.now c.args.i _ lefts.new (λ left. None) c.requires.fits c.in-None.ensures.is (λ left end. refl) inv at_inv)

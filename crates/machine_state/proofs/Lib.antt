@@ -1,0 +1,4 @@
+pub mod StateLemmas
+pub mod PointLemmas
+pub mod FitsLemmas
+pub mod RefusalLemmas

@@ -1,0 +1,6 @@
+pub mod StateView
+pub mod StepView
+pub mod Fits
+pub mod Accessors
+pub mod Spots
+pub mod means
