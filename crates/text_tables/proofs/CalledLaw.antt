@@ -93,7 +93,7 @@ ops_many n (CrdtForm.mv_reg t) = refl
 ops_many n CrdtForm.counter = refl
 ops_many n (CrdtForm.map_uw t c) = refl
 ops_many n (CrdtForm.map_dw t c) = refl
-ops_many n (CrdtForm.struct fields) = refl
+ops_many n (CrdtForm.struct _) = refl
 
 pub queries_many : (n : Names) (form : CrdtForm) → length (own_queries n form) ≡ own_many false form
 queries_many n (CrdtForm.set_aw t) = refl
@@ -103,7 +103,7 @@ queries_many n (CrdtForm.mv_reg t) = refl
 queries_many n CrdtForm.counter = refl
 queries_many n (CrdtForm.map_uw t c) = refl
 queries_many n (CrdtForm.map_dw t c) = refl
-queries_many n (CrdtForm.struct fields) = refl
+queries_many n (CrdtForm.struct _) = refl
 
 abbrev pub op_world : (n : Names) → World PathOp OwnOp n true
 op_world n = record {

@@ -95,7 +95,7 @@ field_in n x steps j c fields ops queries r true h inner later =
     subst (λ (r : Reached). IsIn (object (start_of r.crdt) (ops + before_on true steps c) (queries + before_on false steps c))
     (objects_on ops queries c ++ objects_in_fields (ops + many_on true c) (queries + many_on false c) fields)) r_is
     (in_front _ (objects_on ops queries c) _ (inner to is)))
-field_in n x steps j c fields ops queries r false h inner later =
+field_in n x steps j c _ ops queries r false h inner later =
     let rest = in_back _ (objects_on ops queries c) _ (later h) in
     (rest.0, rest.1 ∙ ap₂ (λ a b. Some (object (start_of r.crdt) a b)) (omega arith) (omega arith))
 

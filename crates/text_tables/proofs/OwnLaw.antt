@@ -143,7 +143,7 @@ op_placed n (CrdtForm.mv_reg t) x m w h e = first_of own_op _ _ m _ w refl refl 
 op_placed n CrdtForm.counter x m w h e = first_of own_op _ _ m _ w refl refl refl e _ _ h
 op_placed n (CrdtForm.map_uw t c) x m w h e = first_of own_op _ _ m _ w refl refl refl e _ _ h
 op_placed n (CrdtForm.map_dw t c) x m w h e = first_of own_op _ _ m _ w refl refl refl e _ _ h
-op_placed n (CrdtForm.struct fields) x m w h e = absurd cc
+op_placed n (CrdtForm.struct _) x m w h e = absurd cc
 
 of_set : (n : Names) (k : Kind) (x : Name) (m : Member) (w : OwnQuery) → find (λ m. same_name m.name x) (set_members k) ≡ Some m → own_query m ≡ Some w
     → HasPlace (λ o. o.name) (filter_map own_query (set_members k)) x m w
@@ -161,4 +161,4 @@ query_placed n (CrdtForm.mv_reg t) x m w h e = second_of own_query _ _ m _ w ref
 query_placed n CrdtForm.counter x m w h e = second_of own_query _ _ m _ w refl refl refl e _ _ h
 query_placed n (CrdtForm.map_uw t c) x m w h e = second_of own_query _ _ m _ w refl refl refl e _ _ h
 query_placed n (CrdtForm.map_dw t c) x m w h e = second_of own_query _ _ m _ w refl refl refl e _ _ h
-query_placed n (CrdtForm.struct fields) x m w h e = absurd cc
+query_placed n (CrdtForm.struct _) x m w h e = absurd cc

@@ -13,7 +13,7 @@ own_many op (CrdtForm.mv_reg t) = 1
 own_many op CrdtForm.counter = 1
 own_many op (CrdtForm.map_uw t c) = 1
 own_many op (CrdtForm.map_dw t c) = 1
-own_many op (CrdtForm.struct fields) = 0
+own_many op (CrdtForm.struct _) = 0
 
 -- with those inside it
 abbrev mutual
