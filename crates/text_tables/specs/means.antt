@@ -1,0 +1,9 @@
+pub mod Cases
+pub mod Counted
+pub mod Grown
+pub mod Kept
+pub mod Limited
+pub mod Placed
+pub mod Rooted
+pub mod Texts
+pub mod Walked
