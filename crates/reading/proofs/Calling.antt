@@ -232,11 +232,11 @@ taken k vs o x steps (Access.misfit at) c what is = absurd cc
 taken k vs o x steps (Access.variable v) c what is =
     map_there (IsTaken k.names (way_from k.names o x) steps (Access.variable v)) (λ s. taking [] [] (variable s.known)) (stand_named vs (text_of x)) c is
     (λ s e. record { along = name_short k.names x steps o _ (Access.variable v) (λ h. refl) what tt _; args = refl })
-taken k vs o x steps (Access.constructor type con) c what is =
-    map_there (IsTaken k.names (way_from k.names o x) steps (Access.constructor type con))
-    (λ j. taking [] (param_kinds k.names (con_fields con)) (constructor j))
-    (con_number (tables_with k) (plain_kind (base.Declared type)) (text_of (con_name con))) c is
-    (λ s e. record { along = name_short k.names x steps o _ (Access.constructor type con) (λ h. refl) what tt _; args = refl })
+taken k vs o x steps (Access.constructor type declared) c what is =
+    map_there (IsTaken k.names (way_from k.names o x) steps (Access.constructor type declared))
+    (λ j. taking [] (param_kinds k.names (con_fields declared)) (constructor j))
+    (con_number (tables_with k) (plain_kind (base.Declared type)) (text_of (con_name declared))) c is
+    (λ s e. record { along = name_short k.names x steps o _ (Access.constructor type declared) (λ h. refl) what tt _; args = refl })
 taken k vs o x steps (Access.use_of j q) c what is =
     subst (IsTaken k.names (way_from k.names o x) steps (Access.use_of j q))
     {x = taking [] (param_kinds k.names (query_params q)) (use_of j q)} {y = c} (cc)

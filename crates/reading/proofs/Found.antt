@@ -75,11 +75,11 @@ term_next s ks i k a es x xs e says rest =
     (subst (λ (js : List Kind). SaysTerms s js es xs) (sym (other_drop ks i (i + 1) refl)) rest)
 
 pub terms_end : (s : Sight) (ks : List Kind) → SaysTerms s ks ExprTrees.no_exprs no_te
-terms_end s [] = no_terms_say s
+terms_end s [] = no_terms_say s []
 terms_end s (k ∷ ks) = λ given st z is. absurd cc
 
 pub args_absent : (s : Sight) (ks : List Kind) → SaysArgs s ks ArgTrees.absent no_te
-args_absent s [] = absent_says s
+args_absent s [] = absent_says s []
 args_absent s (k ∷ ks) = λ given st z is. absurd cc
 
 -- # Keys along a path
@@ -88,7 +88,7 @@ abbrev pub KeysOn : Sight → Way → StepTrees → List Te → Type 0
 KeysOn s way steps xs = (kinds : List Kind) → Along s.tables.names way steps kinds → SaysKeys s kinds steps (tes_of xs)
 
 pub keys_end : (s : Sight) (way : Way) → KeysOn s way StepTrees.no_steps []
-keys_end s way kinds Along.ends = no_keys_say s
+keys_end s way kinds Along.ends = no_keys_say s []
 
 pub keys_next : (s : Sight) (way : Way) (st : StepTree) (steps : StepTrees) (old new : List Te) {W : List Te → Type 0}
     → Gathered (λ ys. KeysOn s way (StepTrees.more_steps st steps) ys) W old → AddsKey s way st old new

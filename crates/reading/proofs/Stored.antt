@@ -51,11 +51,11 @@ variable_called r x steps args v es said says kept is c e =
 pub con_called : (r : Reader) (x : Ident) (steps : StepTrees) (args : ArgTrees) (type : ℕ) (con : ConTree) (es : Tes) (said : Said)
     → ((k : ℕ) → con_number (sight_of r).tables (plain_kind (base.Declared type)) (text_of (con_name con)) ≡ Some k → said ≡ said_term (te.Con k es))
     → IsCalled r (Access.constructor type con) (AccessTree.path x steps args) es said
-con_called r x steps args type con es said says kept is c e =
+con_called r x steps args type declared es said says kept is c e =
     map_there (λ (c : Called Known). IsCall (sight_of r).uses c.what es said)
-    (λ j. taking [] (param_kinds (sight_of r).tables.names (con_fields con)) (constructor j))
-    (con_number (sight_of r).tables (plain_kind (base.Declared type)) (text_of (con_name con))) c
-    (there r kept x steps args (Access.constructor type con) is c e) says
+    (λ j. taking [] (param_kinds (sight_of r).tables.names (con_fields declared)) (constructor j))
+    (con_number (sight_of r).tables (plain_kind (base.Declared type)) (text_of (con_name declared))) c
+    (there r kept x steps args (Access.constructor type declared) is c e) says
 
 pub use_called : (r : Reader) (x : Ident) (steps : StepTrees) (args : ArgTrees) (decl : ℕ) (q : QueryTree) (es : Tes) (said : Said)
     → IsUse (saids_in r.bodies.now) said decl es
@@ -126,8 +126,8 @@ member_called r x steps args mem es said end number ends numbers says kept is c 
 -- of an access that is the same
 pub recalled : {r : Reader} {what other : Access} {path same : AccessTree} {es : Tes} {said : Said} → what ≡ other → path ≡ same
     → IsCalled r other same es said → IsCalled r what path es said
-recalled {r} {what} {other} {path} {same} {es} {said} e i is =
-    subst (λ (a : Access). IsCalled r a path es said) (sym e) (subst (λ (p : AccessTree). IsCalled r other p es said) (sym i) is)
+recalled {r} {what} {other} {accessed} {same} {es} {said} e i is =
+    subst (λ (a : Access). IsCalled r a accessed es said) (sym e) (subst (λ (p : AccessTree). IsCalled r other p es said) (sym i) is)
 
 -- with its last argument
 pub outcome_last : (proc : ℕ) (ys : List Te) (v : Te) (made : Said) → made ≡ said_term (te.ResultWith proc v)
