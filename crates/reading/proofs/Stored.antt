@@ -124,8 +124,8 @@ member_called r x steps args mem es said end number ends numbers says kept is c 
     subst (λ (w : Callee Known). IsCall s.uses w es said) (sym (what ∙ ap (λ d. callee_of d number) acts)) says
 
 -- of an access that is the same
-pub recalled : {r : Reader} {what other : Access} {path same : AccessTree} {es : Tes} {said : Said} → what ≡ other → path ≡ same
-    → IsCalled r other same es said → IsCalled r what path es said
+pub recalled : {r : Reader} {what other : Access} {accessed same : AccessTree} {es : Tes} {said : Said} → what ≡ other → accessed ≡ same
+    → IsCalled r other same es said → IsCalled r what accessed es said
 recalled {r} {what} {other} {accessed} {same} {es} {said} e i is =
     subst (λ (a : Access). IsCalled r a accessed es said) (sym e) (subst (λ (p : AccessTree). IsCalled r other p es said) (sym i) is)
 
