@@ -1,4 +1,0 @@
-pub mod Args
-pub mod Bodies
-pub mod Forms
-pub mod Reads
