@@ -1,0 +1,9 @@
+pub mod Accessing
+pub mod Calling
+pub mod Cut
+pub mod Declared
+pub mod Ends
+pub mod Found
+pub mod Kept
+pub mod Reading
+pub mod Stored

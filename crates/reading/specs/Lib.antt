@@ -1,0 +1,4 @@
+pub mod Args
+pub mod Bodies
+pub mod Forms
+pub mod Reads
