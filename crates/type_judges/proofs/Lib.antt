@@ -1,3 +1,4 @@
 pub mod Later
+pub mod Meanings
 pub mod Noted
 pub mod Words

@@ -5,6 +5,7 @@ mod judge_names;
 mod judge_places;
 mod judge_stmts;
 mod judge_types;
+mod rule_accesses;
 mod rule_terms;
 mod rule_uses;
 mod scope;

@@ -1,12 +1,13 @@
 //! The rules on what expressions are: words, types, plain terms, operations and arguments.
 
-ghost use Rattle.std.specs.Prelude.{◌≡◌, IfOk, List};
+ghost use Rattle.std.specs.Prelude.{◌≡◌, false, IfOk, List};
 ghost use Rattle.rp_ast.specs.View as tree;
 ghost use Rattle.type_rules.specs.Names.{Name, Names};
 ghost use Rattle.type_rules.specs.Starts as starts;
-ghost use Rattle.type_rules.specs.Sites.{Site, Want as AnyWant};
+ghost use Rattle.type_rules.specs.Sites.{Site, Scope as AnyScope, Want as AnyWant};
 ghost use Rattle.type_rules.specs.Rules as spec;
 ghost use Rattle.type_terms.specs.Views.{access_view};
+ghost use Rattle.type_judges.specs.Meant.{is_access};
 ghost use Rattle.type_judges.specs.Places.{scope_view, want_view};
 ghost use Rattle.text_names.specs.Declarations.{names_view};
 
@@ -18,7 +19,7 @@ use rp_span::Span;
 use rp_value::Memory;
 use type_rules::Kind;
 use type_tables::{fits, is_any, is_open, is_ordinary_base, is_unknown, word_takes};
-use type_terms::{Access, access_of, args_fit, cases_of, is_operation, is_plain, start, type_of};
+use type_terms::{Access, cases_of, is_operation, is_plain, start, type_of};
 
 /// The start of an expression, where a rule is broken at it.
 fn when_at(broken: bool, e: &ExprNode) -> Result<Option<Span>, Memory>
@@ -187,7 +188,7 @@ fn is_result_word(word: Option<CallWord>) -> bool
 }
 
 /// An operation stands beside `op(c)`, a procedure beside `info(i)`, its outcome beside `result(i)`.
-fn access_stands(want: Want, what: Access) -> bool
+pub(crate) fn access_stands(want: Want, what: Access) -> bool
     ensures { (n : Names) → result ≡ spec.access_stands (want_view want) (access_view n what.entry) }
 {
     match what {
@@ -198,65 +199,53 @@ fn access_stands(want: Want, what: Access) -> bool
     }
 }
 
+/// Whether an expression that isn't an access may stand there.
 #[tactic(auto, using(rp_ast::proofs::ExprViews::expr_views))]
-fn expr_stands(scope: &Scope, want: Want, e: &ExprNode) -> Result<bool, Memory>
-    ensures { (later : List Name) → IfOk result (λ stands. stands
-        ≡ spec.expr_stands (names_view scope.now.names.now) (scope_view scope.now later) (want_view want)
-        (tree.expr_view e.now)) }
+fn expr_stands(want: Want, e: &ExprNode) -> bool
+    requires { is_access (tree.expr_view e.now) ≡ false }
+    ensures { (n : Names) (sc : AnyScope) → result ≡ spec.expr_stands n sc (want_view want) (tree.expr_view e.now) }
 {
     match &e.what {
-        ExprForm::Access(access) => {
-            let what = access_of(scope.names, scope.vars, access.get())?;
-            Ok(access_stands(want, what))
-        }
-        ExprForm::Unreturned => Ok(is_result_word(want.across)),
-        ExprForm::Tx => Ok(is_op_word(want.across)),
-        _ => Ok(true),
+        ExprForm::Access(_) => unreachable!(),
+        ExprForm::Unreturned => is_result_word(want.across),
+        ExprForm::Tx => is_op_word(want.across),
+        _ => true,
     }
 }
 
 /// T13: where operations and procedures stand.
 pub(crate) fn rule_13(scope: &Scope, want: Want, e: &ExprNode) -> Result<Option<Span>, Memory>
+    requires { is_access (tree.expr_view e.now) ≡ false }
     ensures { (later : List Name) → IfOk result (λ at. at
         ≡ spec.rule13 (names_view scope.now.names.now)
         (Site.place (scope_view scope.now later) (want_view want) (tree.expr_view e.now))) }
 {
-    let stands = expr_stands(scope, want, e)?;
+    let stands = expr_stands(want, e);
     when_at(!stands, e)
 }
 
-/// Whether the parentheses and the number of arguments are right.
-#[tactic(auto, using(rp_ast::proofs::ExprViews::expr_views))]
-pub(crate) fn access_fits(scope: &Scope, access: &AccessNode) -> Result<bool, Memory>
-    ensures { (later : List Name) → IfOk result (λ fit. fit
-        ≡ spec.access_fits (names_view scope.now.names.now) (scope_view scope.now later)
-        (tree.access_view access.now)) }
-{
-    let what = access_of(scope.names, scope.vars, access)?;
-    Ok(args_fit(what, &access.args))
-}
-
+/// Whether an expression that isn't an access has as many arguments as its word takes.
 #[tactic(auto, using(rp_ast::proofs::ExprViews::expr_views, type_terms::proofs::Found::count_is))]
-fn has_its_arguments(scope: &Scope, e: &ExprNode) -> Result<bool, Memory>
-    ensures { (later : List Name) → IfOk result (λ fit. fit
-        ≡ spec.has_its_arguments (names_view scope.now.names.now) (scope_view scope.now later)
-        (tree.expr_view e.now)) }
+fn has_its_arguments(e: &ExprNode) -> bool
+    requires { is_access (tree.expr_view e.now) ≡ false }
+    ensures { (n : Names) (sc : AnyScope) → result ≡ spec.has_its_arguments n sc (tree.expr_view e.now) }
 {
     match &e.what {
-        ExprForm::Call(word, args) => Ok(args.len() == word_takes(*word)),
-        ExprForm::Access(access) => access_fits(scope, access.get()),
-        _ => Ok(true),
+        ExprForm::Call(word, args) => args.len() == word_takes(*word),
+        ExprForm::Access(_) => unreachable!(),
+        _ => true,
     }
 }
 
 /// T14: arguments.
 pub(crate) fn rule_14(scope: &Scope, want: Want, e: &ExprNode) -> Result<Option<Span>, Memory>
+    requires { is_access (tree.expr_view e.now) ≡ false }
     ensures { (later : List Name) → IfOk result (λ at. at
         ≡ spec.rule14 (names_view scope.now.names.now)
         (Site.place (scope_view scope.now later) (want_view want) (tree.expr_view e.now))) }
 {
     let wrong = is_wrong(14, scope, want, e)?;
-    let fit = has_its_arguments(scope, e)?;
+    let fit = has_its_arguments(e);
     when_at(wrong || !fit, e)
 }
 

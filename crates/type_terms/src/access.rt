@@ -7,12 +7,13 @@ ghost use Rattle.rp_grammar.specs.Trees.{StepTrees};
 ghost use Rattle.type_rules.specs.Names.{Names};
 ghost use Rattle.type_rules.specs.Kinds.{param_kinds};
 ghost use Rattle.type_rules.specs.Accesses as spec;
-ghost use Rattle.type_rules.specs.Accesses.{find_var};
 ghost use Rattle.type_rules.specs.Matches.{first_kind};
 ghost use Rattle.text_names.specs.Views.{declared_view};
 ghost use Rattle.type_terms.specs.Views.{access_view, way_view};
+ghost use Rattle.type_terms.specs.Meanings.{access_by, meaning_view};
 ghost use Rattle.text_names.specs.Declarations.{names_view};
 
+use crate::meaning::{Meaning, meaning_of};
 use crate::members::{Member, member_arg, member_kind, member_takes};
 use crate::paths::{Way, walked};
 use rp_ast::{AccessNode, AccessStep, ConNode, ExprNode, Ident, Param, ProcNode, QueryNode};
@@ -110,29 +111,22 @@ fn of_item<'a>(root: &Ident, steps: &[AccessStep], item: Item<'a>) -> Result<Acc
     }
 }
 
-/// What a name with this path is. A variable in sight comes before a constructor of its name.
-fn of_name<'a>(
-    names: &TextNames<'a>,
-    vars: &Vars<'a>,
-    root: &Ident,
-    steps: &[AccessStep],
-) -> Result<Access<'a>, Memory>
-    ensures { IfOk result (λ what. access_view (names_view names.now) what
-        ≡ spec.of_name (names_view names.now) (tree.ident_view root.now) (tree.steps_view steps.now)
-        (find_var vars.now root.now.text)) }
+/// What an access is whose root's name stands for this.
+#[tactic(auto, using(rp_ast::proofs::ExprViews::expr_views))]
+pub fn access_by<'a>(meaning: Meaning<'a>, access: &AccessNode) -> Result<Access<'a>, Memory>
+    ensures { (n : Names) → IfOk result (λ what. access_view n what
+        ≡ access_by n (meaning_view meaning.entry) (tree.access_view access.now)) }
 {
-    let name = root.text.as_slice();
-    match vars.find(name) {
-        Some(var) => Ok(alone(root, steps, Access::Variable(var))),
-        None => match names.item_named(name) {
-            Some(item) => of_item(root, steps, item),
-            None => Ok(Access::Unknown),
-        },
+    let root = &access.root;
+    let steps = access.steps.as_slice();
+    match meaning {
+        Meaning::Variable(var) => Ok(alone(root, steps, Access::Variable(var))),
+        Meaning::Declared(item) => of_item(root, steps, item),
+        Meaning::Nothing => Ok(Access::Unknown),
     }
 }
 
 /// What an access is.
-#[tactic(auto, using(rp_ast::proofs::ExprViews::expr_views))]
 pub fn access_of<'a>(
     names: &TextNames<'a>,
     vars: &Vars<'a>,
@@ -141,11 +135,12 @@ pub fn access_of<'a>(
     ensures { IfOk result (λ what. access_view (names_view names.now) what
         ≡ spec.access_of (names_view names.now) vars.now (tree.access_view access.now)) }
 {
-    of_name(names, vars, &access.root, access.steps.as_slice())
+    let meaning = meaning_of(names, vars, &access.root);
+    access_by(meaning, access)
 }
 
 /// The type of an access.
-pub(crate) fn access_kind(names: &TextNames, what: Access) -> Result<Kind, Memory>
+pub fn access_kind(names: &TextNames, what: Access) -> Result<Kind, Memory>
     ensures { IfOk result (λ kind. kind
         ≡ spec.access_kind (names_view names.now) (access_view (names_view names.now) what.entry)) }
 {

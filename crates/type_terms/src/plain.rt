@@ -1,9 +1,8 @@
 //! Plain terms.
 
-ghost use Rattle.std.specs.Prelude.{◌≡◌, IfOk};
+ghost use Rattle.std.specs.Prelude.{◌≡◌, ◌&&◌, IfOk};
 ghost use Rattle.rp_ast.specs.View as tree;
 ghost use Rattle.rp_ast.specs.declared.expr.AccessStep.TheViews.{out-AccessNode};
-ghost use Rattle.rp_grammar.specs.Trees.{ExprForm as FormTree};
 ghost use Rattle.type_rules.specs.Typing as spec;
 ghost use Rattle.type_terms.specs.Views.{access_view};
 ghost use Rattle.text_names.specs.Declarations.{names_view};
@@ -61,7 +60,10 @@ pub fn is_plain<'a>(names: &TextNames<'a>, vars: &Vars<'a>, e: &ExprNode) -> Res
             let plain = are_plain(names, vars, args.as_slice())?;
             Ok(is_plain_word(*word) && plain)
         }
-        ExprForm::Access(access) => is_plain_path(names, vars, access.get()),
+        ExprForm::Access(access) => {
+            let what = access_of(names, vars, access.get())?;
+            is_plain_path(names, vars, what, access.get())
+        }
         ExprForm::Implies(_, _)
         | ExprForm::Or(_)
         | ExprForm::And(_)
@@ -138,19 +140,21 @@ fn are_plain_args<'a>(
     }
 }
 
-/// Whether an access is a plain term with its keys and arguments.
+/// Whether an access that is this is a plain term with its keys and arguments.
 #[cycle(plain)]
 #[tactic(auto, using(rp_ast::proofs::ExprViews::expr_views))]
-fn is_plain_path<'a>(
+pub fn is_plain_path<'a>(
     names: &TextNames<'a>,
     vars: &Vars<'a>,
+    what: Access,
     access: &AccessNode,
 ) -> Result<bool, Memory>
     ensures { IfOk result (λ plain. plain
-        ≡ spec.is_plain_form (names_view names.now) vars.now (FormTree.access
-        (tree.access_view access.now))) }
+        ≡ (spec.is_plain_access (names_view names.now) (access_view (names_view names.now) what.entry)
+        && spec.are_plain_steps (names_view names.now) vars.now
+        (tree.steps_view (out-AccessNode access.now).steps)
+        && spec.are_plain_args (names_view names.now) vars.now (tree.args_view (out-AccessNode access.now).args))) }
 {
-    let what = access_of(names, vars, access)?;
     let steps = are_plain_steps(names, vars, access.steps.as_slice())?;
     let args = are_plain_args(names, vars, access)?;
     Ok(is_plain_access(names, what) && steps && args)

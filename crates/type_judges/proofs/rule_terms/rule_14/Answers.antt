@@ -20,6 +20,6 @@ returns c = λ later.
     elim c.if-wrong.branch [
       | then-wrong w ↦ w.when_at-is ∙ w.if-wrong.true ∙ ap (λ b. b || misfit) (sym (found ∙ w.if-wrong.true))
       | else-wrong w ↦
-          w.when_at-is ∙ ap not (c.in_ok-fit.ensures later) ∙ ap (λ b. b || misfit) (sym (found ∙ w.if-wrong.false))
+          w.when_at-is ∙ ap not (c.has_its_arguments-fit.ensures n sc) ∙ ap (λ b. b || misfit) (sym (found ∙ w.if-wrong.false))
     ] in
     subst (λ broken. IfOk c.when_at.result (λ at. at ≡ spec.when broken (start e))) either c.when_at.ensures

@@ -1,8 +1,0 @@
-use Rattle.std.proofs.Common.{rules}
-use Rattle.rp_ast.proofs.ExprViews.{expr_views}
-use Rattle.type_judges.proofs.rule_uses.rule_4.Goals as goal
-
-pub returns-in-Access : goal.returns-in-Access
-returns-in-Access c = λ w later counted.
-    let e = c.nowhere.ensures later counted in
-    search (rules, expr_views, e, c.in-Access.is, c.deref.ensures)
