@@ -9,7 +9,8 @@ ghost use Rattle.event_machine.specs.States as seen;
 ghost use Rattle.code_points.specs.ActionView.{action_view};
 ghost use Rattle.machine_state.specs.means.Refusals as refusals;
 ghost use Rattle.machine_state.specs.StateView.{state_view};
-ghost use Rattle.machine_state.specs.StepView.{why_view, label_view};
+ghost use Rattle.step_labels.specs.StepLabels.{label_view};
+ghost use Rattle.machine_state.specs.StepView.{why_view};
 ghost use Rattle.machine_state.specs.Fits.{Fits, StepFits};
 
 use crate::state::State;

@@ -2,7 +2,8 @@ use Rattle.std.proofs.Common.{◌≡◌, subst}
 use Rattle.std.specs.Prelude.{option_map, IfOk}
 use Rattle.rp_lang.specs.ProgramView.{program_view}
 use Rattle.machine_state.specs.StateView.{state_view}
-use Rattle.machine_state.specs.StepView.{why_view, label_view}
+use Rattle.step_labels.specs.StepLabels.{label_view}
+use Rattle.machine_state.specs.StepView.{why_view}
 use Rattle.machine_state.proofs.RefusalLemmas.{named_why, named_fine}
 use Rattle.machine_state.proofs.state.State.refusal.Goals as goal
 

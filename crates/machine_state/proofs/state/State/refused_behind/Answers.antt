@@ -2,7 +2,7 @@ use Rattle.std.proofs.Common.{ap, sym, ◌∙◌}
 use Rattle.rp_lang.specs.ProgramView.{program_view}
 use Rattle.event_machine.specs.Machine.{named}
 use Rattle.machine_state.specs.StateView.{state_view}
-use Rattle.machine_state.specs.StepView.{label_view}
+use Rattle.step_labels.specs.StepLabels.{label_view}
 use Rattle.machine_state.specs.means.Refusals.{behind}
 use Rattle.machine_state.proofs.state.State.refused_behind.Goals as goal
 
