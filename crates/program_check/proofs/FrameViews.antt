@@ -55,10 +55,6 @@ pub ruleset binders_views = (binders_view-Closed, binders_view-Quantified, binde
 
 -- # Variables of arms
 
-pub get_past : {X : Type 0} (x : X) (xs : List X) (n : ℕ) → n ≢ 0 → slice_get (x ∷ xs) n ≡ slice_get xs (n - 1)
-get_past x xs zero p = absurd (p refl)
-get_past x xs (suc n) p = let e : suc n - 1 ≡ n = omega arith in rw e refl
-
 -- past an arm's variables come those around it
 pub under_past : (fields binders : List Ty) (n : ℕ) → slice_get (under fields binders) (length fields + n) ≡ slice_get binders n
 under_past [] binders n = grind arith

@@ -1,3 +1,2 @@
 pub mod DraftView
 pub mod Frames
-pub mod UsesView

@@ -9,11 +9,11 @@ ghost use Rattle.program_check.specs.DraftView.{draft_view};
 ghost use Rattle.program_check.specs.Frames.{frame_view};
 ghost use Rattle.rp_lang.specs.Views.{expr_view, exprs_view, formula_view, stmt_view, stmts_view, stmt_arms_view};
 
-use crate::bounds::{are_small_exs, is_small_ex, is_small_fo};
 use crate::draft::Draft;
 use crate::frame::{Before, Binders, Frame, is_slot};
-use crate::types::{agree, cons_of, fields_of, is_id_type};
+use crate::types::{agree, cons_of, is_id_type};
 use crate::typing::{BOOL, given, have_types, is_typed, type_of};
+use program_bounds::{are_small_exs, fields_of, is_small_ex, is_small_fo};
 use rp_lang::{Expr, Formula, Stmt, StmtArm, StmtKind};
 use rp_value::Ty;
 

@@ -3,7 +3,6 @@
 #![tactic(auto)]
 
 mod blocks;
-mod bounds;
 mod draft;
 mod flow;
 mod frame;
@@ -14,5 +13,4 @@ mod types;
 mod typing;
 mod well_formed;
 
-pub use bounds::{is_small_ex, is_small_fo};
 pub use program::checked_program;

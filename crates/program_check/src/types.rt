@@ -2,6 +2,7 @@
 ghost use Rattle.std.specs.Prelude.{◌≡◌, ◌+◌, ◌*◌, ◌≤◌, ◌<◌, min, sum_by, count_by, slice_get};
 ghost use Rattle.rp_lang.specs.Types as spec;
 
+use program_bounds::fields_of;
 use rp_value::{ConTable, DataDecl, Ty, TypeTable};
 
 /// The most parts that a type may have.
@@ -102,16 +103,6 @@ pub fn is_id_type(types: &TypeTable, n: u32) -> bool
     match types.atoms.as_slice().get(n as usize) {
         Some(atom) => atom.is_id,
         None => false,
-    }
-}
-
-/// The types of a constructor's fields.
-pub fn fields_of(cons: &ConTable, con: u32) -> &[Ty]
-    ensures { result.now ≡ spec.fields_of cons.now con }
-{
-    match cons.cons.as_slice().get(con as usize) {
-        Some(con) => con.fields.as_slice(),
-        None => &[],
     }
 }
 

@@ -8,7 +8,8 @@ ghost use Rattle.rp_lang.specs.Views.{expr_view, exprs_view, formula_view, formu
 
 use crate::draft::Draft;
 use crate::frame::{Binders, Frame};
-use crate::types::{agree, cons_of, datatype_of, fields_of, is_ty};
+use crate::types::{agree, cons_of, datatype_of, is_ty};
+use program_bounds::fields_of;
 use rp_lang::{Arm, Expr, Formula};
 use rp_value::Ty;
 

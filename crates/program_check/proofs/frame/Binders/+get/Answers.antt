@@ -1,6 +1,7 @@
 use Rattle.std.proofs.Common.{◌≡◌, ◌+◌, ◌-◌, length, slice_get, arith, ap, sym, ◌∙◌}
 use Rattle.program_check.specs.Frames.{binders_view}
-use Rattle.program_check.proofs.FrameViews.{binders_view-Quantified, binders_view-Fields, get_past, under_within, under_past}
+use Rattle.program_bounds.proofs.UsesViews.{get_past}
+use Rattle.program_check.proofs.FrameViews.{binders_view-Quantified, binders_view-Fields, under_within, under_past}
 use Rattle.program_check.proofs.frame.Binders.+get.Goals as goal
 
 pub returns-else-n-eq0 : goal.returns-else-n-eq0

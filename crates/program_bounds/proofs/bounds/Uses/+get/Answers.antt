@@ -1,8 +1,7 @@
 use Rattle.std.proofs.Common.{unwrap_or, ap, sym, ◌∙◌}
-use Rattle.program_check.specs.UsesView.{uses_view}
-use Rattle.program_check.proofs.FrameViews.{get_past}
-use Rattle.program_check.proofs.UsesViews.{uses_view-Quantified, uses_view-Fields, among_equal, past_equal}
-use Rattle.program_check.proofs.bounds.Uses.+get.Goals as goal
+use Rattle.program_bounds.specs.UsesView.{uses_view}
+use Rattle.program_bounds.proofs.UsesViews.{uses_view-Quantified, uses_view-Fields, among_equal, past_equal, get_past}
+use Rattle.program_bounds.proofs.bounds.Uses.+get.Goals as goal
 
 pub returns-else-n-eq0 : goal.returns-else-n-eq0
 returns-else-n-eq0 t c =

@@ -1,8 +1,8 @@
 -- How much uses of open variables count, of those of the code.
 use Rattle.std.specs.Prelude.{ℕ, List, [], ◌∷◌, ◌++◌, replicate}
-use Rattle.program_check.specs.declared.bounds.Uses.{Uses}
-use Rattle.program_check.specs.declared.bounds.Uses.TheOpen.{Uses-F, Closed, Quantified, Fields}
-use Rattle.program_check.specs.declared.bounds.Uses.TheFolds.{fold-Uses}
+use Rattle.program_bounds.specs.declared.bounds.Uses.{Uses}
+use Rattle.program_bounds.specs.declared.bounds.Uses.TheOpen.{Uses-F, Closed, Quantified, Fields}
+use Rattle.program_bounds.specs.declared.bounds.Uses.TheFolds.{fold-Uses}
 
 abbrev pub uses_step : Uses-F (List ℕ) → List ℕ
 uses_step Closed = []

@@ -1,12 +1,12 @@
 //! Limits on one expression or formula: depth, nodes, and variables inside one another.
 ghost use Rattle.std.specs.Prelude.{◌≡◌, ◌≤◌, ◌↔◌, ◌+◌, min, unwrap_or, slice_get, IsTrue};
 ghost use Rattle.rp_lang.specs.Bounds as spec;
-ghost use Rattle.program_check.specs.UsesView.{uses_view};
+ghost use Rattle.program_bounds.specs.UsesView.{uses_view};
+ghost use Rattle.rp_lang.specs.Types as types;
 ghost use Rattle.rp_lang.specs.Views.{expr_view, exprs_view, formula_view, formulas_view, arms_view};
 
-use crate::types::fields_of;
 use rp_lang::{Arm, Expr, Formula};
-use rp_value::ConTable;
+use rp_value::{ConTable, Ty};
 
 /// The greatest depth of an expression or a formula.
 const DEPTH: u32 = 64;
@@ -16,6 +16,16 @@ const NODES: u64 = 100_000;
 
 /// The most variables of quantifiers and arms inside one another.
 const BINDERS: usize = 16;
+
+/// The types of a constructor's fields.
+pub fn fields_of(cons: &ConTable, con: u32) -> &[Ty]
+    ensures { result.now ≡ types.fields_of cons.now con }
+{
+    match cons.cons.as_slice().get(con as usize) {
+        Some(con) => con.fields.as_slice(),
+        None => &[],
+    }
+}
 
 /// How much each use of an open variable counts, the innermost first.
 #[derive(Drop)]

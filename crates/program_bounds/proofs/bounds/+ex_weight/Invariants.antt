@@ -1,8 +1,8 @@
 use Rattle.std.proofs.Common.{◌≡◌, ◌+◌, ◌≤◌, min, drop}
 use Rattle.rp_lang.specs.Bounds.{exs_weight}
-use Rattle.program_check.specs.UsesView.{uses_view}
+use Rattle.program_bounds.specs.UsesView.{uses_view}
 use Rattle.rp_lang.specs.Views.{exprs_view}
-use Rattle.program_check.proofs.bounds.+ex_weight.Given as goal
+use Rattle.program_bounds.proofs.bounds.+ex_weight.Given as goal
 
 abbrev pub invariant-exs_weight-loop-e : goal.invariant-exs_weight-loop-e
 invariant-exs_weight-loop-e l = record {

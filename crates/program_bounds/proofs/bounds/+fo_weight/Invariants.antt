@@ -1,8 +1,8 @@
 use Rattle.std.proofs.Common.{◌≡◌, ◌+◌, ◌≤◌, min, drop}
 use Rattle.rp_lang.specs.Bounds.{fos_weight, arms_weight}
-use Rattle.program_check.specs.UsesView.{uses_view}
+use Rattle.program_bounds.specs.UsesView.{uses_view}
 use Rattle.rp_lang.specs.Views.{formulas_view, arms_view}
-use Rattle.program_check.proofs.bounds.+fo_weight.Given as goal
+use Rattle.program_bounds.proofs.bounds.+fo_weight.Given as goal
 
 abbrev pub invariant-fos_weight-loop-part : goal.invariant-fos_weight-loop-part
 invariant-fos_weight-loop-part l = record {
