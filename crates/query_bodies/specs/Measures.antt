@@ -1,5 +1,5 @@
 -- How large terms and formulas get with all uses put in, told without putting them in.
-use Rattle.std.specs.Prelude.{ℕ, ◌+◌, ◌*◌, max, min, nat_lt, true, false, ◌||◌, List, Option, Some, None, slice_get, slice_set, unwrap_or, replicate, if◌then◌else◌}
+use Rattle.std.specs.Prelude.{ℕ, ◌+◌, ◌*◌, max, min, nat_lt, true, false, ◌||◌, List, length, Option, Some, None, slice_get, slice_set, unwrap_or, replicate, if◌then◌else◌}
 use Rattle.query_bodies.specs.declared.bodies.Facts.{Facts}
 use Rattle.query_bodies.specs.declared.bodies.Standing.{Standing}
 use Rattle.query_bodies.specs.Terms as te
@@ -81,6 +81,11 @@ noted_use at (Some q) m = noted at q.facts m
 abbrev pub standing_in : Option Measured → ℕ → Standing
 standing_in None p = nowhere
 standing_in (Some q) p = unwrap_or (slice_get q.params p) nowhere
+
+-- over so many parameters it was measured
+abbrev pub params_in : Option Measured → ℕ
+params_in None = 0
+params_in (Some q) = length q.params
 
 abbrev pub argument_at : At → Standing → At
 argument_at at s = record at { above = plus at.above s.deepest; comes = times at.comes s.times }

@@ -3,7 +3,7 @@
 ghost use Rattle.std.specs.Prelude.{◌≡◌, ◌++◌, ◌∷◌, [], None, OnOk, Some, length, slice_get, unwrap_or};
 ghost use Rattle.std.specs.Option.{option_map};
 ghost use Rattle.query_bodies.specs.Expanded.{said_at};
-ghost use Rattle.query_bodies.specs.Measures.{nowhere, standing_in};
+ghost use Rattle.query_bodies.specs.Measures.{nowhere, params_in, standing_in};
 ghost use Rattle.query_bodies.specs.Seen.{bodies_view, body_in, known_in, saids_in, seen_body};
 ghost use Rattle.query_bodies.specs.Views.{body_view};
 
@@ -114,6 +114,16 @@ impl Bodies {
         ensures { result ≡ option_map (λ m. m.facts) (known_in self.now decl) }
     {
         Some(self.item(decl)?.facts)
+    }
+
+    /// How many parameters the query of this declaration has, if it is one.
+    pub fn params_of(&self, decl: u32) -> usize
+        ensures { result ≡ params_in (known_in self.now decl) }
+    {
+        match self.item(decl) {
+            Some(item) => item.params.len(),
+            None => 0,
+        }
     }
 
     /// How the parameter of this number stands in the body of the query.
