@@ -83,7 +83,7 @@ impl Bodies {
     }
 
     /// The number of declarations so far.
-    pub(crate) fn count(&self) -> u32
+    pub fn count(&self) -> u32
         ensures { result ≡ length (saids_in self.now) }
     {
         self.items.count()
