@@ -9,7 +9,7 @@ ghost use Rattle.rp_lang.specs.Views.{root_view, inv_view, proc_view};
 
 use crate::draft::Draft;
 use crate::types::is_declared;
-use rp_lang::{InvDecl, ProcDecl, Root, has_name, have_distinct_names};
+use rp_lang::{InvDecl, ProcDecl, Root};
 use rp_value::{AtomType, ConDecl, ConTable, DataDecl};
 
 fn atoms_have(atoms: &[AtomType], name: &[u8]) -> bool
@@ -53,6 +53,30 @@ fn roots_are_distinct(roots: &[Root]) -> bool
     let mut left = roots;
     while let [first, rest @ ..] = left {
         if roots_have(rest, first.name.as_slice()) {
+            return false;
+        }
+        left = rest;
+    }
+    true
+}
+
+fn procs_have(procs: &[ProcDecl], name: &[u8]) -> bool
+    ensures { result ≡ spec.is_name name.now (form.names (map proc_view procs.now)) }
+{
+    for proc in procs {
+        if name == proc.name.as_slice() {
+            return true;
+        }
+    }
+    false
+}
+
+fn procs_are_distinct(procs: &[ProcDecl]) -> bool
+    ensures { result ≡ form.are_distinct (form.names (map proc_view procs.now)) }
+{
+    let mut left = procs;
+    while let [first, rest @ ..] = left {
+        if procs_have(rest, first.name.as_slice()) {
             return false;
         }
         left = rest;
@@ -177,7 +201,7 @@ fn roots_are_no_procs(procs: &[ProcDecl], roots: &[Root]) -> bool
     ensures { result ≡ spec.are_apart (spec.root_names (map root_view roots.now)) (form.names (map proc_view procs.now)) }
 {
     for root in roots {
-        if has_name(procs, root.name.as_slice()) {
+        if procs_have(procs, root.name.as_slice()) {
             return false;
         }
     }
@@ -227,7 +251,7 @@ fn are_value_names(draft: &Draft) -> bool
     let procs = draft.procs.as_slice();
     let cons = draft.cons.cons.as_slice();
     roots_are_distinct(roots)
-        && have_distinct_names(procs)
+        && procs_are_distinct(procs)
         && cons_are_distinct(cons)
         && roots_are_no_procs(procs, roots)
         && roots_are_no_cons(cons, roots)

@@ -1,11 +1,9 @@
 pub mod CrdtViews
 pub mod ExprViews
-pub mod FirstFormLemmas
 pub mod FormulaViews
 pub mod ProgramLemmas
 pub mod StmtViews
 pub mod PathLemmas
 pub mod ProcViews
-pub mod FirstFormLaws
 pub mod TypeFacts
 pub mod ProgramFacts

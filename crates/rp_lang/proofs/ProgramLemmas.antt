@@ -1,11 +1,9 @@
--- What a program over truth values has.
-use Rattle.std.proofs.Common.{◌≡◌, ℕ, ◌≤◌, Bool, true, false, ◌&&◌, ◌==◌, nat_le, is_none, IsTrue, List, [], ◌∷◌, Some, zero, suc, length, map, slice_get, arith}
+-- What a procedure over truth values has.
+use Rattle.std.proofs.Common.{◌≡◌, ℕ, ◌≤◌, Bool, true, false, ◌&&◌, ◌==◌, nat_le, is_none, IsTrue, length, arith}
 use Rattle.std.specs.List.{list_all}
-use Rattle.rp_lang.specs.declared.proc.ProcDecl.{ProcDecl}
-use Rattle.rp_lang.specs.FirstForm.{is_bool, has_bool_slots, has_few_statements, are_checking, is_over_truth_values, are_distinct, names, are_over_truth_values}
+use Rattle.rp_lang.specs.FirstForm.{is_bool, has_bool_slots, has_few_statements, are_checking, is_over_truth_values}
 use Rattle.rp_lang.specs.Programs.{Proc}
 use Rattle.rp_lang.specs.Sizes.{sts_count}
-use Rattle.rp_lang.specs.Views.{proc_view}
 
 both : (a b : Bool) → IsTrue (a && b) → IsTrue a × IsTrue b
 both true true t = (t, t)
@@ -17,23 +15,6 @@ within_test m n t = grind arith
 
 equal_test : (m n : ℕ) → IsTrue (m == n) → m ≡ n
 equal_test m n t = grind arith
-
-all_at : (test : Proc → Bool) (procs : List ProcDecl) (k : ℕ) (p : ProcDecl) → IsTrue (list_all test (map proc_view procs)) → slice_get procs k ≡ Some p → IsTrue (test (proc_view p))
-all_at test [] k p all at = grind arith
-all_at test (q ∷ procs) zero p all at = grind arith
-all_at test (q ∷ procs) (suc k) p all at = grind (arith, all_at test procs k p)
-
--- each of its procedures is over truth values
-pub proc_over_truth_values : (procs : List ProcDecl) (k : ℕ) (p : ProcDecl) → IsTrue (are_over_truth_values (map proc_view procs)) → slice_get procs k ≡ Some p → IsTrue (is_over_truth_values (proc_view p))
-proc_over_truth_values procs k p fits at =
-    let ps : List Proc = map proc_view procs in
-    let most = both (nat_le (length ps) 64 && list_all is_over_truth_values ps) (are_distinct (names ps)) fits in
-    all_at is_over_truth_values procs k p (both (nat_le (length ps) 64) (list_all is_over_truth_values ps) most.0).1 at
-
-pub few_procs : (procs : List Proc) → IsTrue (are_over_truth_values procs) → length procs ≤ 64
-few_procs procs fits =
-    let most = both (nat_le (length procs) 64 && list_all is_over_truth_values procs) (are_distinct (names procs)) fits in
-    within_test (length procs) 64 (both (nat_le (length procs) 64) (list_all is_over_truth_values procs) most.0).0
 
 -- the parts of the test of a procedure
 pub record IsOverTruthValues (p : Proc) : Type 0 where
@@ -67,5 +48,3 @@ proc_facts p fits =
       few_statements = within_test (sts_count p.body) 200 head.1;
       checking = whole.1;
     }
-
-pub ruleset first_form_facts = (proc_over_truth_values, few_procs, proc_facts)

@@ -4,7 +4,6 @@
 mod crdt;
 mod event;
 mod expr;
-mod first_form;
 mod formula;
 mod goal;
 mod inv;
@@ -23,7 +22,6 @@ mod stmt;
 pub use crdt::{Crdt, Field};
 pub use event::{Event, What};
 pub use expr::Expr;
-pub use first_form::{has_name, have_distinct_names};
 pub use formula::{Arm, Formula};
 pub use goal::{GoalKind, GoalName};
 pub use inv::InvDecl;

@@ -5,7 +5,7 @@ use Rattle.std.specs.List.{list_all}
 use Rattle.rp_grammar.specs.Trees.{DeclTree}
 use Rattle.rp_lang.specs.FirstForm.{are_over_truth_values, over_truth_values, is_over_truth_values, are_distinct}
 use Rattle.rp_lang.specs.Programs.{Proc, Prog}
-use Rattle.rp_lang.proofs.ProgramLemmas.{few_procs}
+use Rattle.rp_types.proofs.FirstFormLemmas.{few_procs}
 use Rattle.rp_types.specs.FirstProgram.{IsProgramOf}
 use Rattle.rp_types.specs.means.Found.{is_named, names_a_proc, procs_for, procs_of}
 use Rattle.rp_types.specs.Resolution.{Name, names}

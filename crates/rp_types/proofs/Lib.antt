@@ -8,3 +8,5 @@ pub mod FoundProgram
 pub mod Gathered
 pub mod Accesses
 pub mod Answered
+pub mod FirstFormLemmas
+pub mod FirstFormLaws

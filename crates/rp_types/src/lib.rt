@@ -1,6 +1,7 @@
 //! Names, types and desugaring: which program a tree is.
 #![tactic(auto)]
 
+mod first_form;
 mod formula;
 mod laws;
 mod names;

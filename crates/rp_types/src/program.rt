@@ -4,6 +4,7 @@ ghost use Rattle.rp_lang.specs.Programs.{Prog};
 ghost use Rattle.rp_lang.specs.ProgramView.{program_view};
 ghost use Rattle.rp_types.specs.FirstProgram.{IsProgramOf};
 
+use crate::first_form::first_form;
 use crate::procedure::procedures;
 use crate::stop::Stop;
 use rp_ast::Ast;
@@ -22,7 +23,7 @@ pub fn first_program(alloc: Global, ast: &Ast) -> Result<Option<Program>, Memory
         ((p : Prog) → IsProgramOf (ast_view ast.now) p → ⊥)) }
 {
     match procedures(alloc, ast.decls.as_slice()) {
-        Ok(procs) => Program::first_form(alloc, procs),
+        Ok(procs) => first_form(alloc, procs),
         Err(Stop::NotFirst) => Ok(None),
         Err(Stop::Memory) => Err(Memory),
     }

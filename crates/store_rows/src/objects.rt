@@ -173,42 +173,44 @@ fn draft_of(alloc: Global, block: &str) -> Result<Draft, Memory> {
     Ok(draft)
 }
 
-/// The types with identifiers, and with `Maybe[Int]` behind `Bool`.
-fn with_types(alloc: Global, mut types: TypeTable) -> Result<TypeTable, Memory> {
+/// The types: identifiers, `Bool`, and `Maybe[Int]`.
+fn types_of(alloc: Global) -> Result<TypeTable, Memory> {
+    let mut atoms = List::new(alloc);
     let name = copy_bytes(alloc, b"id")?;
-    types.atoms.push(AtomType { name, is_id: true })?;
+    atoms.push(AtomType { name, is_id: true })?;
+    let mut datatypes = List::new(alloc);
+    let name = copy_bytes(alloc, b"Bool")?;
+    let cons = copy_list(alloc, &[0, 1])?;
+    datatypes.push(DataDecl { name, cons })?;
     let name = copy_bytes(alloc, b"Maybe[Int]")?;
     let cons = copy_list(alloc, &[2, 3])?;
-    types.datatypes.push(DataDecl { name, cons })?;
-    Ok(types)
+    datatypes.push(DataDecl { name, cons })?;
+    Ok(TypeTable { atoms, datatypes })
 }
 
-/// The constructors with those of `Maybe[Int]`.
-fn with_cons(alloc: Global, mut cons: ConTable) -> Result<ConTable, Memory> {
-    let name = copy_bytes(alloc, b"none")?;
-    let fields = List::new(alloc);
-    cons.cons.push(ConDecl {
-        name,
-        of: 1,
-        fields,
-    })?;
-    let name = copy_bytes(alloc, b"some")?;
-    let fields = copy_list(alloc, &[Ty::Int])?;
-    cons.cons.push(ConDecl {
-        name,
-        of: 1,
-        fields,
-    })?;
-    Ok(cons)
+/// A constructor of the datatype of that number.
+fn con(alloc: Global, name: &str, of: u32, fields: &[Ty]) -> Result<ConDecl, Memory> {
+    Ok(ConDecl {
+        name: copy_bytes(alloc, name.as_bytes())?,
+        of,
+        fields: copy_list(alloc, fields)?,
+    })
+}
+
+/// The constructors of `Bool` and of `Maybe[Int]`.
+fn cons_of(alloc: Global) -> Result<ConTable, Memory> {
+    let mut cons = List::new(alloc);
+    cons.push(con(alloc, "false", 0, &[])?)?;
+    cons.push(con(alloc, "true", 0, &[])?)?;
+    cons.push(con(alloc, "none", 1, &[])?)?;
+    cons.push(con(alloc, "some", 1, &[Ty::Int])?)?;
+    Ok(ConTable { cons })
 }
 
 /// The program that a block declares, if it declares one that is well formed.
 pub(crate) fn program_of(alloc: Global, block: &str) -> Result<Option<Program>, Memory> {
-    let Some(base) = Program::first_form(alloc, List::new(alloc))? else {
-        return Ok(None);
-    };
-    let types = with_types(alloc, base.types)?;
-    let cons = with_cons(alloc, base.cons)?;
+    let types = types_of(alloc)?;
+    let cons = cons_of(alloc)?;
     let draft = draft_of(alloc, block)?;
     if !draft.is_whole {
         return Ok(None);

@@ -1,7 +1,7 @@
 use Rattle.std.proofs.Common.{◌≡◌, drop}
 use Rattle.rp_lang.specs.FirstForm as spec
 use Rattle.rp_lang.specs.Views.{formulas_view}
-use Rattle.rp_lang.proofs.first_form.+propositional.Given as goal
+use Rattle.rp_types.proofs.first_form.+propositional.Given as goal
 
 abbrev pub invariant-are_propositional-loop-part : goal.invariant-are_propositional-loop-part
 invariant-are_propositional-loop-part l =

@@ -1,15 +1,14 @@
-//! Whether procedures are over truth values.
-ghost use Rattle.std.specs.Prelude.{◌≡◌, nat_eq, map};
+//! Programs over truth values, of procedures that are such.
+ghost use Rattle.std.specs.Prelude.{◌≡◌, ◌↔◌, nat_eq, map, IsTrue, IsSome, IfOk, IfSome};
 ghost use Rattle.std.specs.Cmp.Lexicographic.{pointwise};
 ghost use Rattle.std.specs.List.{list_all, list_any};
 ghost use Rattle.rp_lang.specs.FirstForm as spec;
+ghost use Rattle.rp_lang.specs.ProgramView.{program_view};
 ghost use Rattle.rp_lang.specs.Views.{expr_view, formula_view, formulas_view, stmt_view, stmts_view, proc_view};
 
-use crate::expr::Expr;
-use crate::formula::Formula;
-use crate::proc::ProcDecl;
-use crate::stmt::{Stmt, StmtKind, count_all};
-use rp_value::Ty;
+use rp_lang::{Expr, Formula, ProcDecl, Program, Stmt, StmtKind, count_all, only_tx};
+use rp_value::{ConDecl, ConTable, DataDecl, List, Memory, Ty, TypeTable, copy_bytes, copy_list};
+use std::alloc::Global;
 
 /// The greatest depth and number of nodes of a formula.
 const DEPTH: u32 = 64;
@@ -44,7 +43,7 @@ fn has_two(parts: &[Formula]) -> bool
 }
 
 #[cycle(propositional)]
-#[tactic(auto, using(crate::proofs::FormulaViews::formula_views))]
+#[tactic(auto, using(rp_lang::proofs::FormulaViews::formula_views))]
 fn is_propositional(f: &Formula, params: usize) -> bool
     ensures { result ≡ spec.is_propositional params (formula_view f.now) }
 {
@@ -60,7 +59,7 @@ fn is_propositional(f: &Formula, params: usize) -> bool
 }
 
 #[cycle(propositional)]
-#[tactic(auto, using(crate::proofs::FormulaViews::formula_views))]
+#[tactic(auto, using(rp_lang::proofs::FormulaViews::formula_views))]
 fn are_propositional(parts: &[Formula], params: usize) -> bool
     ensures { result ≡ spec.are_propositional params (formulas_view parts.now) }
 {
@@ -79,7 +78,7 @@ fn is_condition(f: &Formula, params: usize) -> bool
 }
 
 #[cycle(checking)]
-#[tactic(auto, using(crate::proofs::StmtViews::stmt_views))]
+#[tactic(auto, using(rp_lang::proofs::StmtViews::stmt_views))]
 fn is_checking(stmt: &Stmt, params: usize) -> bool
     ensures { result ≡ spec.is_checking params (stmt_view stmt.now) }
 {
@@ -96,7 +95,7 @@ fn is_checking(stmt: &Stmt, params: usize) -> bool
 }
 
 #[cycle(checking)]
-#[tactic(auto, using(crate::proofs::StmtViews::stmt_views))]
+#[tactic(auto, using(rp_lang::proofs::StmtViews::stmt_views))]
 fn are_checking(stmts: &[Stmt], params: usize) -> bool
     ensures { result ≡ spec.are_checking params (stmts_view stmts.now) }
 {
@@ -149,7 +148,7 @@ fn all_are_over_truth_values(procs: &[ProcDecl]) -> bool
     true
 }
 
-pub fn has_name(procs: &[ProcDecl], name: &[u8]) -> bool
+fn has_name(procs: &[ProcDecl], name: &[u8]) -> bool
     ensures { result ≡ list_any (pointwise nat_eq name.now) (spec.names (map proc_view procs.now)) }
 {
     for p in procs {
@@ -160,7 +159,7 @@ pub fn has_name(procs: &[ProcDecl], name: &[u8]) -> bool
     false
 }
 
-pub fn have_distinct_names(procs: &[ProcDecl]) -> bool
+fn have_distinct_names(procs: &[ProcDecl]) -> bool
     ensures { result ≡ spec.are_distinct (spec.names (map proc_view procs.now)) }
 {
     let mut left = procs;
@@ -174,8 +173,63 @@ pub fn have_distinct_names(procs: &[ProcDecl]) -> bool
 }
 
 /// Whether the procedures are over truth values, no more than 64, and with names that differ.
-pub fn are_over_truth_values(procs: &[ProcDecl]) -> bool
+fn are_over_truth_values(procs: &[ProcDecl]) -> bool
     ensures { result ≡ spec.are_over_truth_values (map proc_view procs.now) }
 {
     procs.len() <= 64 && all_are_over_truth_values(procs) && have_distinct_names(procs)
+}
+
+fn bool_types(alloc: Global) -> Result<TypeTable, Memory>
+    ensures { IfOk result (λ types. types ≡ spec.bool_types) }
+{
+    let mut datatypes = List::new(alloc);
+    datatypes.push(DataDecl {
+        name: copy_bytes(alloc, b"Bool")?,
+        cons: copy_list(alloc, &[0, 1])?,
+    })?;
+    Ok(TypeTable {
+        atoms: List::new(alloc),
+        datatypes,
+    })
+}
+
+fn bool_cons(alloc: Global) -> Result<ConTable, Memory>
+    ensures { IfOk result (λ cons. cons ≡ spec.bool_cons) }
+{
+    let mut cons = List::new(alloc);
+    cons.push(ConDecl {
+        name: copy_bytes(alloc, b"false")?,
+        of: 0,
+        fields: List::new(alloc),
+    })?;
+    cons.push(ConDecl {
+        name: copy_bytes(alloc, b"true")?,
+        of: 0,
+        fields: List::new(alloc),
+    })?;
+    Ok(ConTable { cons })
+}
+
+/// The program of these procedures, where they are over truth values: procedures of `Bool` parameters that branch
+/// and assert, and no data.
+pub(crate) fn first_form(alloc: Global, procs: List<ProcDecl>) -> Result<Option<Program>, Memory>
+    ensures some { IfOk result (λ found. IsSome found ↔ IsTrue (spec.are_over_truth_values (map proc_view procs))) }
+    ensures program { IfOk result (λ found. IfSome found (λ p. program_view p ≡ spec.over_truth_values (map proc_view procs))) }
+    ensures form { IfOk result (λ found. IfSome found (λ p. spec.IsFirstForm (program_view p))) }
+{
+    if !are_over_truth_values(procs.as_slice()) {
+        return Ok(None);
+    }
+    let ops = only_tx(alloc)?;
+    let types = bool_types(alloc)?;
+    let cons = bool_cons(alloc)?;
+    Ok(Some(Program {
+        types,
+        cons,
+        roots: List::new(alloc),
+        ops,
+        queries: List::new(alloc),
+        invs: List::new(alloc),
+        procs,
+    }))
 }

@@ -2,8 +2,8 @@ use Rattle.std.proofs.Common.{◌≡◌, IsTrue, true, map, sym, subst, ap, ◌�
 use Rattle.rp_lang.specs.FirstForm.{are_over_truth_values}
 use Rattle.rp_lang.specs.Views.{proc_view}
 use Rattle.rp_lang.specs.WellFormed.{is_well_formed}
-use Rattle.rp_lang.proofs.FirstFormLaws.{well_formed_over_truth_values, parts_are}
-use Rattle.rp_lang.proofs.program.Program.first_form.Goals as goal
+use Rattle.rp_types.proofs.FirstFormLaws.{well_formed_over_truth_values, parts_are}
+use Rattle.rp_types.proofs.first_form.first_form.Goals as goal
 
 pub invariant_of-result : goal.invariant_of-result
 invariant_of-result c =

@@ -3,7 +3,7 @@ use Rattle.std.specs.Cmp.Lexicographic.{pointwise}
 use Rattle.std.specs.List.{list_any}
 use Rattle.rp_lang.specs.FirstForm as spec
 use Rattle.rp_lang.specs.Views.{proc_view}
-use Rattle.rp_lang.proofs.first_form.has_name.Given as goal
+use Rattle.rp_types.proofs.first_form.has_name.Given as goal
 
 abbrev pub invariant-loop-p : goal.invariant-loop-p
 invariant-loop-p l =

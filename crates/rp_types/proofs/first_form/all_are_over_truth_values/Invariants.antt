@@ -2,7 +2,7 @@ use Rattle.std.proofs.Common.{◌≡◌, map, drop}
 use Rattle.std.specs.List.{list_all}
 use Rattle.rp_lang.specs.FirstForm as spec
 use Rattle.rp_lang.specs.Views.{proc_view}
-use Rattle.rp_lang.proofs.first_form.all_are_over_truth_values.Given as goal
+use Rattle.rp_types.proofs.first_form.all_are_over_truth_values.Given as goal
 
 abbrev pub invariant-loop-p : goal.invariant-loop-p
 invariant-loop-p l =
