@@ -1,8 +1,8 @@
 -- Uses of queries by the bodies of a text are those of the definitions.
-use Rattle.std.proofs.Common.{◌≡◌, ◌<◌, ◌≤◌, ◌==◌, ℕ, zero, suc, Bool, true, false, cond, List, [], ◌∷◌, ◌++◌, length, Option, Some, if◌then◌else◌, slice_get, refl, ap, ap₂, subst, sym, ◌∙◌, arith, eqb-true}
+use Rattle.std.proofs.Common.{◌≡◌, ◌<◌, ◌≤◌, ◌==◌, ℕ, zero, suc, Bool, true, false, cond, List, [], ◌∷◌, ◌++◌, length, Option, Some, None, if◌then◌else◌, slice_get, refl, ap, ap₂, subst, sym, ◌∙◌, arith, eqb-true}
 use Rattle.std.proofs.Math.Path.{fun_ext}
 use Rattle.std.proofs.lemmas.List.{length_push}
-use Rattle.std.specs.Prelude.{option_and_then}
+use Rattle.std.specs.Prelude.{option_and_then, unwrap_or}
 use Rattle.rp_grammar.specs.Trees.{QueryTree, DeclTree}
 use Rattle.rp_lang.specs.Exprs.{Exs}
 use Rattle.type_rules.specs.Kinds.{kind_of}
@@ -47,12 +47,16 @@ body_more t u w m (QueryTree.query x params result body) es =
 
 -- # Bodies of the first declarations
 
-pub said_before : (bodies more : Saids) (i : ℕ) → i < length bodies → said_at (bodies ++ more) i ≡ said_at bodies i
+-- of any list that goes by declarations
+
+pub said_before : {X : Type 0} (bodies more : List (Option X)) (i : ℕ) → i < length bodies
+    → unwrap_or (slice_get (bodies ++ more) i) None ≡ unwrap_or (slice_get bodies i) None
 said_before [] more i lt = absurd (omega (arith, lt))
 said_before (o ∷ bodies) more zero lt = refl
 said_before (o ∷ bodies) more (suc i) lt = said_before bodies more i (omega (arith, lt))
 
-pub said_last : (bodies : Saids) (o : Option Said) (i : ℕ) → i ≡ length bodies → said_at (bodies ++ o ∷ []) i ≡ o
+pub said_last : {X : Type 0} (bodies : List (Option X)) (o : Option X) (i : ℕ) → i ≡ length bodies
+    → unwrap_or (slice_get (bodies ++ o ∷ []) i) None ≡ o
 said_last [] o zero e = refl
 said_last [] o (suc i) e = absurd (omega (arith, e))
 said_last (p ∷ bodies) o zero e = absurd (omega (arith, e))

@@ -16,6 +16,7 @@ pub mod Used
 pub mod Measured
 pub mod Totals
 pub mod Enough
+pub mod Lengths
 pub mod NextMeasured
 pub mod Weights
 pub mod Few

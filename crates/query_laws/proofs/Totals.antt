@@ -82,10 +82,10 @@ query_told : (cons : ConTable) (bodies : Saids) (k : Known) (n : ℕ) (s : Said)
     → UsesTold cons (uses_in bodies n) k → (given : Given) (v : Value) → said_under (uses_in bodies n) given 0 s ≡ Some v
     → UseTold cons k n given v
 query_told cons bodies k n s there is t given v h = record {
-  q = measured is.below is.params s;
-  is = is.is;
-  told = body_told is.params given (measured is.below is.params s) (size_of cons v)
-      (said_told cons bodies (uses_in bodies n) is.below (known_before cons bodies k is.below n is.before t) (forms_kept bodies n)
+  q = measured is.added.below is.params s;
+  is = is.added.is;
+  told = body_told is.params given (measured is.added.below is.params s) (size_of cons v)
+      (said_told cons bodies (uses_in bodies n) is.added.below (known_before cons bodies k is.added.below n is.added.before t) (forms_kept bodies n)
       is.params (take is.params given) (covered_none is.params given) s is.fits v (is.over given 0 v h));
 }
 

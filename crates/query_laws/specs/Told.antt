@@ -1,17 +1,20 @@
 -- How large values are, and what is told of them by measures of what becomes them.
-use Rattle.std.specs.Prelude.{◌≡◌, ◌<◌, ◌≤◌, ◌↔◌, ℕ, ◌*◌, take, length, Option, Some}
+use Rattle.std.specs.Prelude.{◌≡◌, ◌<◌, ◌≤◌, ◌↔◌, ℕ, ◌*◌, List, take, length, Option, Some}
 use Rattle.rp_value.specs.declared.tables.ConTable.{ConTable}
+use Rattle.rp_grammar.specs.Trees.{QueryTree, DeclTree}
 use Rattle.rp_lang.specs.Sizes.{ex_depth, ex_nodes, fo_depth, fo_nodes}
 use Rattle.rp_lang.specs.Bounds.{fo_binders}
 use Rattle.rp_lang.specs.Types.{fields_of}
+use Rattle.type_rules.specs.Accesses.{query_params}
 use Rattle.desugaring.specs.Values.{Value, term, formula, reads}
 use Rattle.query_bodies.specs.declared.bodies.Facts.{Facts}
 use Rattle.query_bodies.specs.Terms as te
 use Rattle.query_bodies.specs.Terms.{Te, Tes, no_te, also_te, Cl, Cls, no_cl, also_cl, ClArms, no_cl_arm, also_cl_arm, Said, said_term, said_claim}
 use Rattle.query_bodies.specs.Expanded as put
-use Rattle.query_bodies.specs.Expanded.{Uses, Given, Saids, said_at, said_under, uses_in, all_uses}
+use Rattle.query_bodies.specs.Expanded.{Uses, Given, Saids, said_at, said_under, uses_in}
 use Rattle.query_bodies.specs.Measures.{Known, measured, most}
 use Rattle.query_laws.specs.Sight.{Follows}
+use Rattle.query_laws.specs.Whole.{IsQueryAt}
 
 -- # Values
 
@@ -102,21 +105,33 @@ ArmsOver uses n arms = Keeps n (λ given bound. put.arms_of uses given bound arm
 
 -- # Bodies
 
--- the query's body is measured by what is known of the queries before
-pub record IsMeasured (cons : ConTable) (bodies : Saids) (k : Known) (decl : ℕ) (s : Said) : Type 0 where
-  pub params : ℕ
+-- the query's body was added with so many parameters, measured by what is known of the queries before
+pub record IsAdded (k : Known) (decl params : ℕ) (s : Said) : Type 0 where
   pub below : Known
   pub before : (d : ℕ) → d < decl → below d ≡ k d
   pub is : k decl ≡ Some (measured below params s)
+
+-- so it is what was added for each query of the text, with the parameters that this has
+pub record IsAddedOf (tree : List DeclTree) (k : Known) (decl : ℕ) (s : Said) : Type 0 where
+  pub query : QueryTree
+  pub there : IsQueryAt tree decl query
+  pub added : IsAdded k decl (length (query_params query)) s
+
+abbrev pub AreAdded : List DeclTree → Saids → Known → Type 0
+AreAdded tree bodies k = (decl : ℕ) (s : Said) → said_at bodies decl ≡ Some s → IsAddedOf tree k decl s
+
+-- the body of the next declaration, if it is a query
+pub record IsNextAdded (tree : List DeclTree) (bodies : Saids) (k later : Known) (s : Said) : Type 0 where
+  pub query : QueryTree
+  pub there : IsQueryAt tree (length bodies) query
+  pub is : later (length bodies) ≡ Some (measured k (length (query_params query)) s)
+
+-- it tells what a use becomes: it fits, and is over those parameters
+pub record IsMeasured (cons : ConTable) (bodies : Saids) (k : Known) (decl : ℕ) (s : Said) : Type 0 where
+  pub params : ℕ
+  pub added : IsAdded k decl params s
   pub fits : Fits cons bodies s
   pub over : IsOver (uses_in bodies decl) params s
 
 abbrev pub AreMeasured : ConTable → Saids → Known → Type 0
 AreMeasured cons bodies k = (decl : ℕ) (s : Said) → said_at bodies decl ≡ Some s → IsMeasured cons bodies k decl s
-
--- so is the next one
-pub record IsNextMeasured (cons : ConTable) (bodies : Saids) (k later : Known) (s : Said) : Type 0 where
-  pub params : ℕ
-  pub is : later (length bodies) ≡ Some (measured k params s)
-  pub fits : Fits cons bodies s
-  pub over : IsOver (all_uses bodies) params s

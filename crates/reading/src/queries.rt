@@ -5,8 +5,9 @@ ghost use Rattle.rp_ast.specs.View as tree;
 ghost use Rattle.text_tables.specs.Seen.{tables_view};
 ghost use Rattle.type_rules.specs.Queries.{names_of};
 ghost use Rattle.query_bodies.specs.Expanded.{uses_of};
-ghost use Rattle.query_bodies.specs.Seen.{saids_in};
+ghost use Rattle.query_bodies.specs.Seen.{known_in, saids_in};
 ghost use Rattle.query_bodies.specs.Views.{body_view};
+ghost use Rattle.query_laws.specs.Told.{AreAdded};
 ghost use Rattle.query_laws.specs.Whole.{AreBodiesOf, IsSaidBody};
 ghost use Rattle.reading.specs.Bodies.{AddsDecl};
 ghost use Rattle.reading.specs.Reads.{with_params};
@@ -72,7 +73,7 @@ fn lower_decl<'a>(
     }
 }
 
-/// The bodies of a text's queries.
+/// The bodies of a text's queries, each measured over its parameters.
 pub fn lower_queries<'a>(
     alloc: Global,
     tables: &Tables<'_, 'a>,
@@ -81,6 +82,8 @@ pub fn lower_queries<'a>(
     requires named { (tables_view tables.now).names ≡ names_of (tree.decls_view decls.now) }
     ensures uses { IfOk result (λ bodies. AreBodiesOf (tables_view tables.now) (tree.decls_view decls.now)
         (saids_in bodies)) }
+    ensures measured { IfOk result (λ bodies. AreAdded (tree.decls_view decls.now) (saids_in bodies)
+        (known_in bodies)) }
     ensures count { IfOk result (λ bodies. length (saids_in bodies) ≡ length decls.now) }
 {
     let mut bodies = Bodies::new(alloc);
