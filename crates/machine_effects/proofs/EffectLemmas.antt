@@ -38,7 +38,7 @@ use Rattle.machine_state.specs.declared.state.Run.{Run}
 use Rattle.machine_state.specs.declared.state.State.{State}
 use Rattle.machine_state.specs.declared.state.Standing as stood
 use Rattle.machine_state.specs.declared.state.Standing.TheVariants as stand
-use Rattle.machine_state.specs.Accessors.{is_running}
+use Rattle.machine_state.specs.Accessors.{has_ended, is_returned, is_running}
 use Rattle.machine_state.specs.Fits.{Fits, IsKept}
 use Rattle.machine_state.specs.StateView.{inv_view, invs_view, txs_view, standing_view, left_of, state_view}
 use Rattle.machine_state.proofs.StateLemmas.{nothing, one_found, viewed_at, txs_length, invs_length}
@@ -49,7 +49,7 @@ use Rattle.machine_effects.specs.Steps.{Tells, Does}
 use Rattle.machine_effects.specs.means.Lefts as lefts
 use Rattle.machine_effects.proofs.CodeLemmas.{begun_none, ended_none, new_none}
 use Rattle.machine_effects.proofs.ViewLemmas.{set_found, any_set, invs_set_run, invs_end, invs_calls, txs_end, txs_set, reading_is, all_in}
-use Rattle.machine_effects.proofs.KeptLemmas.{RunFits, IntsFit, bit_within, bit_more, run_fits, kept_run, kept_more, kept_commit, kept_tx}
+use Rattle.machine_effects.proofs.KeptLemmas.{RunFits, IntsFit, bit_within, bit_more, told_by, run_fits, kept_run, kept_more, kept_commit, kept_tx}
 
 or_false : (b : Bool) → (b || false) ≡ b
 or_false true = refl
@@ -65,10 +65,11 @@ pub run_does : (p : Program) (s : State) (i : ℕ) (info : Info) (run new : Run)
     → slice_get s.infos i ≡ Some info → slice_get s.runs i ≡ Some run → RunFits s.committed new
     → limit_of (program_view p) (state_view (program_view p) s) label ≡ None
     → ((x : Val) → spec.stands_in x (standing_view new.standing info.outcome) ≡ spec.stands_in x (standing_view run.standing info.outcome))
+    → has_ended info.outcome ≡ is_returned new.standing
     → spec.effect (program_view p) (state_view (program_view p) s) label
     ≡ seen.Moved (spec.with_invocation (state_view (program_view p) s) i (inv_view (program_view p) (calls_view s.history) info new))
     → Does p s label (record s { runs = slice_set s.runs i new }) event.Moved
-run_does p s i info run new label fits is_info is_run new_fits within same effect =
+run_does p s i info run new label fits is_info is_run new_fits within same ends effect =
     let v = program_view p in
     let calls = calls_view s.history in
     let written : invs_view v calls s.infos (slice_set s.runs i new) ≡ slice_set (invs_view v calls s.infos s.runs) i (inv_view v calls info new) =
@@ -76,7 +77,7 @@ run_does p s i info run new label fits is_info is_run new_fits within same effec
     record {
       within = within;
       tells = subst (λ answer. Tells v s answer (record s { runs = slice_set s.runs i new }) event.Moved) (sym effect) (refl, ap (λ invs. record (state_view v s) { invocations = invs }) written);
-      kept = kept_run s i new fits.kept new_fits;
+      kept = kept_run s i new fits.kept new_fits (told_by s.infos i info new is_info ends);
       known = λ x. fits.known x
           ∙ sym (ap (list_any (knows x)) written
           ∙ any_set (knows x) (invs_view v calls s.infos s.runs) i (inv_view v calls info run) (inv_view v calls info new) (viewed_at v s i info run is_info is_run) (same x));
@@ -87,6 +88,11 @@ running_is x stand.Running outcome e = refl
 running_is x stand.Returned outcome e = absurd (true≢false (sym e))
 running_is x stand.Failed outcome e = absurd (true≢false (sym e))
 
+running_not : (standing : stood.Standing) → is_running standing ≡ true → is_returned standing ≡ false
+running_not stand.Running e = refl
+running_not stand.Returned e = absurd (true≢false (sym e))
+running_not stand.Failed e = refl
+
 pub fail_does : (p : Program) (s : State) (i : ℕ) (info : Info) (run : Run) → Fits p s → slice_get s.infos i ≡ Some info → slice_get s.runs i ≡ Some run → is_running run.standing ≡ true
     → Does p s (seen.Fail i) (record s { runs = slice_set s.runs i (record run { standing = stand.Failed }) }) event.Moved
 fail_does p s i info run fits is_info is_run runs =
@@ -96,6 +102,7 @@ fail_does p s i info run fits is_info is_run runs =
     (record { ascending = old.ascending; committed = old.committed; later = old.later; ints = old.ints })
     refl
     (λ x. sym (running_is x run.standing info.outcome runs))
+    (fits.kept.told i info run is_info is_run ∙ running_not run.standing runs)
     (ap (λ o. option_map_or (λ inv. spec.stands v i inv seen.Failed) o (seen.Moved v)) (viewed_at (program_view p) s i info run is_info is_run))
 
 -- # Commit
@@ -147,7 +154,7 @@ commit_does p s i tx at info run here next fits is_info is_run own code behind =
         ap (λ ts. record sv { txs = ts; invocations = invs_view v calls s.infos (slice_set s.runs i new) }) txs
             ∙ ap (λ invs. record sv { txs = slice_set sv.txs tx (record { inv = i; committed = true }); invocations = invs }) (written ∙ ap (slice_set sv.invocations i) seen_new),
       );
-      kept = kept_run (record s { committed = slice_set s.committed tx true }) i new marked new_fits;
+      kept = kept_run (record s { committed = slice_set s.committed tx true }) i new marked new_fits (told_by s.infos i info new is_info (fits.kept.told i info run is_info is_run));
       known = λ x. fits.known x
           ∙ sym (ap (list_any (knows x)) written ∙ any_set (knows x) (invs_view v calls s.infos s.runs) i inv (inv_view v calls info new) at_inv refl);
     }
@@ -229,7 +236,7 @@ begin_does p s i stamp at sees info run call next fits is_info is_run room ascen
                 let last : own ≡ t = one_found (Some own) own t refl is in
                 omega arith;
             ints = old.ints;
-          });
+          }) (told_by s.infos i info new is_info (fits.kept.told i info run is_info is_run));
       known = λ x. fits.known x
           ∙ sym (ap (list_any (knows x)) invs ∙ any_set (knows x) sv.invocations i inv (target own) at_inv refl);
     }
@@ -284,7 +291,7 @@ make_does p s i slot of at info run id next fits is_info is_run fit code behind 
     let ids : map value_view (s.generated ++ id ∷ []) ≡ sv.generated ++ value_view id ∷ [] = map-append value_view s.generated (id ∷ []) in
     let effect : spec.effect v sv (seen.New i (value_view id)) ≡ seen.Moved (record (spec.with_invocation sv i (record (spec.with_slot inv slot (value_view id)) { left = next })) { generated = sv.generated ++ value_view id ∷ [] }) =
     ap (λ o. option_map_or (λ inv. spec.made sv i (value_view id) inv inv.left) o (seen.Moved sv)) at_inv ∙ new_by sv i slot of (value_view id) inv inv.left next code in
-    let kept = kept_run s i new fits.kept (put_fits s i slot at run id fits.kept is_run fit) in
+    let kept = kept_run s i new fits.kept (put_fits s i slot at run id fits.kept is_run fit) (told_by s.infos i info new is_info (fits.kept.told i info run is_info is_run)) in
     record {
       within = refl;
       tells = subst (λ answer. Tells v s answer made event.Moved) (sym effect) (
@@ -292,7 +299,7 @@ make_does p s i slot of at info run id next fits is_info is_run fit code behind 
         ap (λ is. record sv { invocations = is; generated = map value_view (s.generated ++ id ∷ []) }) written
             ∙ ap (λ g. record sv { invocations = slice_set sv.invocations i (record (spec.with_slot inv slot (value_view id)) { left = next }); generated = g }) ids,
       );
-      kept = record { few = kept.few; runs = kept.runs; txs = kept.txs; calls = kept.calls; ascending = kept.ascending; committed = kept.committed; later = kept.later; ints = kept.ints };
+      kept = record { few = kept.few; runs = kept.runs; txs = kept.txs; calls = kept.calls; ascending = kept.ascending; committed = kept.committed; later = kept.later; ints = kept.ints; told = kept.told };
       known = λ x. fits.known x
           ∙ sym (ap (list_any (knows x)) written ∙ any_set (knows x) sv.invocations i inv (record (spec.with_slot inv slot (value_view id)) { left = next }) at_inv refl);
     }
@@ -442,7 +449,7 @@ invoke_does p s proc args q fits is_proc room fit =
     record {
       within = invoke_limit p s proc vals same room fit;
       tells = subst (λ answer. Tells v s answer made event.Moved) (sym effect) (refl, ap (λ is. record sv { invocations = is }) invs);
-      kept = kept_more s (first_info proc args) (first_run q args) (omega arith) fits.kept (first_fits s.committed q args fit);
+      kept = kept_more s (first_info proc args) (first_run q args) (omega arith) fits.kept (first_fits s.committed q args fit) refl;
       known = λ x. fits.known x
           ∙ sym (ap (list_any (knows x)) invs ∙ list_any-append (knows x) sv.invocations (new ∷ []) ∙ or_false (list_any (knows x) sv.invocations));
     }

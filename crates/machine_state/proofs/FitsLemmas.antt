@@ -57,6 +57,7 @@ empty_fits p universe room some = record {
     committed = λ i run at_i. absurd (nothing run at_i);
     later = λ i t run at_i is. absurd (nothing run at_i);
     ints = λ i n run v at_i at_n. absurd (nothing run at_i);
+    told = λ i info run at_info at_i. absurd (nothing run at_i);
   };
   known = λ x. refl;
 }

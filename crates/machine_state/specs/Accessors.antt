@@ -34,6 +34,11 @@ is_running stand.Running = true
 is_running stand.Returned = false
 is_running stand.Failed = false
 
+abbrev pub is_returned : stood.Standing → Bool
+is_returned stand.Running = false
+is_returned stand.Returned = true
+is_returned stand.Failed = false
+
 abbrev pub has_ended : Outcome → Bool
 has_ended Unreturned = false
 has_ended Returned = true

@@ -13,12 +13,14 @@ use Rattle.rp_lang.specs.ProgramView.{program_view}
 use Rattle.crdt_defs.specs.Atoms.{ints_fit}
 use Rattle.crdt_defs.specs.SameValues.{same_val}
 use Rattle.crdt_defs.specs.Snapshots.{bit}
+use Rattle.crdt_truth.specs.declared.reading.Info.{Info}
 use Rattle.event_machine.specs.Machine.{is_known}
 use Rattle.event_machine.specs.WellFormed.{At, IsWellFormed}
 use Rattle.event_machine.specs.TypedStates.{IsTyped}
 use Rattle.code_points.specs.Points.{size}
 use Rattle.machine_state.specs.declared.state.Run.{Run}
 use Rattle.machine_state.specs.declared.state.State.{State}
+use Rattle.machine_state.specs.Accessors.{has_ended, is_returned}
 use Rattle.machine_state.specs.StateView.{state_view}
 
 -- the points of each procedure have numbers of 64 bits
@@ -40,6 +42,8 @@ pub record IsKept (s : State) : Type 0 where
   pub later : (i t : ℕ) (run : Run) → At s.runs i run → run.tx ≡ Some t → All (λ tx. tx < t) run.seen
   -- integers in slots have 64 bits
   pub ints : (i n : ℕ) (run : Run) (v : Value) → At s.runs i run → At run.slots n (Some v) → ints_fit (value_view v) ≡ true
+  -- an invocation has an outcome exactly where it has returned
+  pub told : (i : ℕ) (info : Info) (run : Run) → At s.infos i info → At s.runs i run → has_ended info.outcome ≡ is_returned run.standing
 
 -- what is kept as known is what stands in results
 abbrev pub KnowsResults : Prog → State → Type 0
