@@ -1,0 +1,95 @@
+use Rattle.std.proofs.Common.{min, ◌≡◌, ℕ, ◌+◌, ◌≤◌, List, slice_get, ap, ◌∙◌, sym, arith}
+use Rattle.rp_lang.specs.ProgramView.{program_view}
+use Rattle.rp_lang.specs.Stmts.{St, If}
+use Rattle.rp_lang.specs.declared.stmt.Stmt.{Stmt}
+use Rattle.rp_lang.specs.declared.stmt.StmtArm.{StmtArm}
+use Rattle.rp_lang.specs.Views.{expr_view, formula_view, stmt_view, stmts_view, kind_view, stmt_arms_view}
+use Rattle.rp_lang.proofs.StmtViews.{stmt_view-what, kind_view-Put, kind_view-Decide, kind_view-New, kind_view-Operate, kind_view-If, kind_view-Match, kind_view-Atomic, kind_view-Assert}
+use Rattle.code_points.specs.Points.{inner, size, arms_size, arms_from, does_at}
+use Rattle.event_machine.specs.Code.{Code, Choose, Match}
+use Rattle.event_machine.specs.Machine as spec
+use Rattle.event_machine.specs.States as seen
+use Rattle.machine_locals.proofs.LocalLemmas.{local_nothing, quiet_return}
+use Rattle.machine_state.specs.StateView.{left_of}
+use Rattle.machine_locals.proofs.locals.run_stmt.Goals as goal
+
+pub put-requires-clause-next : goal.put-requires-clause-next
+put-requires-clause-next c = λ inv at.
+    c.requires.next inv at
+    ∙ ap (λ (s : St). does_at (left_of (slice_get (program_view c.args.p.now).procs inv.proc)) c.args.at s)
+    (stmt_view-what c.args.stmt.now ∙ ap (λ k. kind_view k c.args.stmt.now.at) c.in-Put.is ∙ kind_view-Put _ _ _)
+
+pub decide-requires-clause-next : goal.decide-requires-clause-next
+decide-requires-clause-next c = λ inv at.
+    c.requires.next inv at
+    ∙ ap (λ (s : St). does_at (left_of (slice_get (program_view c.args.p.now).procs inv.proc)) c.args.at s)
+    (stmt_view-what c.args.stmt.now ∙ ap (λ k. kind_view k c.args.stmt.now.at) c.in-Decide.is ∙ kind_view-Decide _ _ _)
+
+pub choose-requires-clause-next : goal.choose-requires-clause-next
+choose-requires-clause-next c = λ inv at.
+    let from : ℕ → Code = left_of (slice_get (program_view c.args.p.now).procs inv.proc) in
+    let n = c.args.at in
+    let then_ = stmts_view c.in-If.then_ in
+    let else_ = stmts_view c.in-If._else in
+    let is : stmt_view c.args.stmt.now ≡ If c.args.stmt.now.at (formula_view c.in-If.f) then_ else_ =
+    stmt_view-what c.args.stmt.now ∙ ap (λ k. kind_view k c.args.stmt.now.at) c.in-If.is ∙ kind_view-If _ _ _ _ in
+    let points : inner (stmt_view c.args.stmt.now) ≡ size then_ + 1 + (size else_ + 1) = ap inner is in
+    let found : c.size.result ≡ min (size then_) 18446744073709551615 =
+    c.size.ensures ∙ ap (λ (xs : List Stmt). min (size (stmts_view xs)) 18446744073709551615) c.as_slice.ensures.items in
+    let room : n + inner (stmt_view c.args.stmt.now) + 1 ≤ 18446744073709551614 = c.requires.room in
+    let sized : size then_ ≡ c.size.result = omega arith in
+    c.requires.next inv at
+    ∙ ap (λ (s : St). does_at from n s) is
+    ∙ ap (λ m. Choose (formula_view c.in-If.f) (from (n + 1)) (from (n + 1 + (m + 1)))) sized
+
+pub enter-requires-clause-next : goal.enter-requires-clause-next
+enter-requires-clause-next c = λ inv at.
+    let from : ℕ → Code = left_of (slice_get (program_view c.args.p.now).procs inv.proc) in
+    c.requires.next inv at
+    ∙ ap (λ (s : St). does_at from c.args.at s) (stmt_view-what c.args.stmt.now ∙ ap (λ k. kind_view k c.args.stmt.now.at) c.in-Match.is ∙ kind_view-Match _ _ _)
+    ∙ ap (λ (xs : List StmtArm). Match (expr_view c.in-Match.on) (arms_from from (stmt_arms_view xs) (c.args.at + 1))) (sym c.as_slice-in-Match.ensures.items)
+
+pub enter-requires-clause-room : goal.enter-requires-clause-room
+enter-requires-clause-room c =
+    let points : inner (stmt_view c.args.stmt.now) ≡ arms_size (stmt_arms_view c.in-Match.arms) =
+    ap inner (stmt_view-what c.args.stmt.now ∙ ap (λ k. kind_view k c.args.stmt.now.at) c.in-Match.is ∙ kind_view-Match _ _ _) in
+    let same : arms_size (stmt_arms_view c.as_slice-in-Match.result.now) ≡ arms_size (stmt_arms_view c.in-Match.arms) =
+    ap (λ (xs : List StmtArm). arms_size (stmt_arms_view xs)) c.as_slice-in-Match.ensures.items in
+    let room : c.args.at + inner (stmt_view c.args.stmt.now) + 1 ≤ 18446744073709551614 = c.requires.room in
+    omega arith
+
+pub test-requires-clause-next : goal.test-requires-clause-next
+test-requires-clause-next c = λ inv at.
+    c.requires.next inv at
+    ∙ ap (λ (s : St). does_at (left_of (slice_get (program_view c.args.p.now).procs inv.proc)) c.args.at s)
+    (stmt_view-what c.args.stmt.now ∙ ap (λ k. kind_view k c.args.stmt.now.at) c.in-Assert.is ∙ kind_view-Assert _ _)
+
+pub returns-in-New-clause-ok : goal.returns-in-New-clause-ok
+returns-in-New-clause-ok c =
+    local_nothing c.args.p.now c.args.s.now c.args.i c.requires.fits c.requires.within
+    (λ inv at. ap (λ code. spec.is_same seen.ToLocal (spec.next_action code)) (c.requires.next inv at)
+    ∙ ap (λ (s : St). spec.is_same seen.ToLocal (spec.next_action (does_at (left_of (slice_get (program_view c.args.p.now).procs inv.proc)) c.args.at s)))
+    (stmt_view-what c.args.stmt.now ∙ ap (λ k. kind_view k c.args.stmt.now.at) c.in-New.is ∙ kind_view-New _ _ _))
+
+pub returns-in-Operate-clause-ok : goal.returns-in-Operate-clause-ok
+returns-in-Operate-clause-ok c =
+    local_nothing c.args.p.now c.args.s.now c.args.i c.requires.fits c.requires.within
+    (λ inv at. ap (λ code. spec.is_same seen.ToLocal (spec.next_action code)) (c.requires.next inv at)
+    ∙ ap (λ (s : St). spec.is_same seen.ToLocal (spec.next_action (does_at (left_of (slice_get (program_view c.args.p.now).procs inv.proc)) c.args.at s)))
+    (stmt_view-what c.args.stmt.now ∙ ap (λ k. kind_view k c.args.stmt.now.at) c.in-Operate.is ∙ kind_view-Operate _ _ _))
+
+pub returns-in-Atomic-clause-ok : goal.returns-in-Atomic-clause-ok
+returns-in-Atomic-clause-ok c =
+    local_nothing c.args.p.now c.args.s.now c.args.i c.requires.fits c.requires.within
+    (λ inv at. ap (λ code. spec.is_same seen.ToLocal (spec.next_action code)) (c.requires.next inv at)
+    ∙ ap (λ (s : St). spec.is_same seen.ToLocal (spec.next_action (does_at (left_of (slice_get (program_view c.args.p.now).procs inv.proc)) c.args.at s)))
+    (stmt_view-what c.args.stmt.now ∙ ap (λ k. kind_view k c.args.stmt.now.at) c.in-Atomic.is ∙ kind_view-Atomic _ _))
+
+pub returns-in-Return-clause-ok : goal.returns-in-Return-clause-ok
+returns-in-Return-clause-ok c =
+    local_nothing c.args.p.now c.args.s.now c.args.i c.requires.fits c.requires.within
+    (λ inv at.
+    let from : ℕ → Code = left_of (slice_get (program_view c.args.p.now).procs inv.proc) in
+    ap (λ code. spec.is_same seen.ToLocal (spec.next_action code)) (c.requires.next inv at)
+    ∙ ap (λ (s : St). spec.is_same seen.ToLocal (spec.next_action (does_at from c.args.at s))) (stmt_view-what c.args.stmt.now ∙ ap (λ k. kind_view k c.args.stmt.now.at) c.in-Return.is)
+    ∙ quiet_return from c.args.at c.args.stmt.now.at c.in-Return._e)

@@ -1,0 +1,6 @@
+//! A call of an open transaction.
+#![tactic(auto)]
+
+mod operation;
+
+pub use operation::operate;

@@ -1,0 +1,7 @@
+//! What invocations return.
+#![tactic(auto)]
+
+mod known;
+mod returning;
+
+pub use returning::give_back;

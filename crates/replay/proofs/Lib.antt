@@ -1,0 +1,4 @@
+pub mod Events
+mod LimitLemmas
+mod ReadLemmas
+pub mod Walks

@@ -1,0 +1,8 @@
+//! Schedules, run on the machine from the empty state.
+#![tactic(auto)]
+
+mod laws;
+mod replayed;
+
+pub use laws::read_schedules_fit;
+pub use replayed::{Outcome, ReplayErr, replay};
