@@ -1,0 +1,14 @@
+pub mod Noted
+pub mod Slots
+pub mod Sights
+pub mod Rows
+pub mod Added
+pub mod Ways
+pub mod Terms
+pub mod Asked
+pub mod Declaring
+pub mod Claimed
+pub mod Simple
+pub mod Variables
+pub mod Written
+pub mod Wholes

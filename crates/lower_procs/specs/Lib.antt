@@ -1,0 +1,4 @@
+pub mod Noting
+pub mod Writing
+pub mod Whole
+pub mod Heads

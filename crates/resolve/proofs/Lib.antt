@@ -1,0 +1,10 @@
+pub mod Firsts
+pub mod Splits
+pub mod Large
+pub mod Adding
+pub mod Declaring
+pub mod Blank
+pub mod Counted
+pub mod Objects
+pub mod Whole
+pub mod Within
