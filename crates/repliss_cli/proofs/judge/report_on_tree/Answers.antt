@@ -1,8 +1,12 @@
 use Rattle.std.proofs.Common.{subst, sym, ap, Err}
 use Rattle.rp_span.specs.Places.{place_of}
 use Rattle.repliss_cli.specs.Answers.{IsBrokenText, IsPastLimit, past_program}
+use Rattle.repliss_cli.proofs.Readings.{text_of}
 use Rattle.repliss_cli.proofs.Refused.{broken_text, limit_text}
 use Rattle.repliss_cli.proofs.judge.report_on_tree.Goals as goal
+
+pub resolve-requires : goal.resolve-requires
+resolve-requires c = (_, text_of c.requires.read)
 
 pub report_on_program-report-requires-clause-read : goal.report_on_program-report-requires-clause-read
 report_on_program-report-requires-clause-read c = (_, c.requires.read, c.in-Ok.ensures.program)
