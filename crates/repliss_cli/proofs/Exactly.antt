@@ -6,7 +6,7 @@ use Rattle.std.specs.Prelude.{IfSome, IsSome}
 use Rattle.rp_io.specs.Files.{Contents, content_of}
 use Rattle.rp_io.specs.Sinks.{Puts}
 use Rattle.repliss_cli.specs.declared.report.Report.{Report}
-use Rattle.repliss_cli.specs.declared.report.Report.TheVariants.{Verified, Unproved, Usage, ProgramBytes, Lex, Syntax, Depth, Rule, NotYet}
+use Rattle.repliss_cli.specs.declared.report.Report.TheVariants.{Verified, Unproved, Usage, Lex, Syntax, Limit, Rule, NotYet}
 use Rattle.repliss_cli.specs.declared.report.Status.{Status}
 use Rattle.repliss_cli.specs.declared.report.Status.TheVariants.{Fine, Found, Refused, ReadFault, WriteFault, NoMemory}
 use Rattle.repliss_cli.specs.Words.{Words, named}
@@ -33,12 +33,11 @@ on_told words told r are (Some name) is h = go (content_of told name) refl (subs
 
 asked : (words : Words) (told : Option Contents) (r : Report) → AreTold words told → HasCause words told r → Asked words told r
 asked words told Usage are h = usage h
-asked words told ProgramBytes are h = on_told words told ProgramBytes are (named words) refl h
 asked words told (Verified n) are h = on_told words told (Verified n) are (named words) refl h
 asked words told (Unproved n lines) are h = on_told words told (Unproved n lines) are (named words) refl h
 asked words told (Lex f pos) are h = on_told words told (Lex f pos) are (named words) refl h
 asked words told (Syntax pos) are h = on_told words told (Syntax pos) are (named words) refl h
-asked words told Depth are h = on_told words told Depth are (named words) refl h
+asked words told (Limit passed) are h = on_told words told (Limit passed) are (named words) refl h
 asked words told (Rule rule pos) are h = on_told words told (Rule rule pos) are (named words) refl h
 asked words told NotYet are h = on_told words told NotYet are (named words) refl h
 

@@ -7,7 +7,7 @@ use Rattle.rp_grammar.specs.Lexed.{Lexed, Faulty}
 use Rattle.rp_grammar.specs.Terminals.{Tok, at}
 use Rattle.rp_grammar.specs.Trees.{DeclTree}
 use Rattle.rp_grammar.specs.Begins.{IsTree, IsTreeWithin, IsFirstBad, IsTooDeep}
-use Rattle.rp_grammar.specs.Texts.{HasToks, IsTextWithin, StandsAt, IsBadAt, IsTooDeepAt}
+use Rattle.rp_grammar.specs.Texts.{HasToks, IsText, IsTextWithin, StandsAt, IsBadAt, IsTooDeepAt}
 use Rattle.rp_grammar.proofs.Unique.{not_both, one_fault}
 use Rattle.rp_grammar.proofs.Moving.{answer}
 use Rattle.rp_grammar.proofs.Toks.{one_text_toks, some_text_toks, text_ends_in_end}
@@ -60,6 +60,10 @@ tree_or_deep {content = content} {t = t} (us, has, is) (vs, k, other, also, stan
 
 tree_of : {us : List Tok} {t : List DeclTree} → IsTreeWithin 64 us t → IsTree us t
 tree_of (ms, plainly, program, within) = (ms, plainly, program)
+
+-- a text within the nesting is a text
+pub text_of : {content : List ℕ} {t : List DeclTree} → IsTextWithin 64 content t → IsText content t
+text_of (us, has, is) = (us, has, tree_of is)
 
 -- a text has one tree
 pub one_tree : {content : List ℕ} {t u : List DeclTree} → IsTextWithin 64 content t → IsTextWithin 64 content u → t ≡ u

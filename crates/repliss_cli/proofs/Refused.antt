@@ -1,6 +1,5 @@
 -- Refusals of a text, from what its tokens and its tree are.
-use Rattle.std.proofs.Common.{◌≡◌, ℕ, zero, suc, ◌<◌, ◌≤◌, List, [], ◌∷◌, length, Option, None, Some, slice_get, All, refl, sym, ap, subst, ◌∙◌, arith}
-use Rattle.std.specs.Option.{IfNone}
+use Rattle.std.proofs.Common.{◌≡◌, ℕ, zero, suc, ◌<◌, ◌≤◌, List, [], ◌∷◌, length, Some, slice_get, All, refl, ap, subst, arith}
 use Rattle.std.proofs.lemmas.List.Elements.{All-head, All-tail}
 use Rattle.rp_span.specs.Places.{place_of}
 use Rattle.rp_grammar.specs.declared.Token.{Token}
@@ -12,13 +11,12 @@ use Rattle.rp_grammar.specs.Trees.{DeclTree}
 use Rattle.rp_grammar.specs.Begins.{IsFirstBad, IsTooDeep}
 use Rattle.rp_grammar.specs.Texts.{HasToks, IsTextWithin, StandsAt}
 use Rattle.rp_grammar.proofs.Unique.{one_lexing}
-use Rattle.rp_lang.specs.declared.program.Program.{Program}
+use Rattle.rp_lang.specs.declared.limit.LimitName.{LimitName}
+use Rattle.rp_lang.specs.FirstForm.{IsFirstForm}
 use Rattle.rp_lang.specs.Programs.{Proc, Prog}
-use Rattle.rp_types.specs.FirstProgram.{IsProgramOf}
-use Rattle.rp_types.proofs.FoundProgram.{only_program}
 use Rattle.type_rules.specs.declared.fault.Fault.{Fault}
-use Rattle.type_rules.specs.Faults.{IsFirstFault, IsLawful, first_fault}
-use Rattle.type_rules.proofs.Least.{fault_least, none_lawful}
+use Rattle.type_rules.specs.Faults.{IsFirstFault}
+use Rattle.desugaring.specs.Limits.{HasProgram, PassesLimit}
 use Rattle.rp_parser.specs.Answers.{IsFault}
 use Rattle.rp_parser.specs.declared.error.ParseErr.{ParseErr}
 use Rattle.rp_parser.specs.declared.error.ParseErr.TheVariants as parse_err
@@ -26,8 +24,8 @@ use Rattle.rp_verify.specs.Verdicts.{proc_paths, HasFewPaths, IsPast, IsWithinLi
 use Rattle.rp_verify.specs.declared.verdict.GoalErr.{GoalErr}
 use Rattle.rp_verify.specs.declared.verdict.GoalErr.TheVariants as err
 use Rattle.repliss_cli.specs.FirstText.{IsFirstText}
-use Rattle.repliss_cli.specs.Answers.{IsSyntaxFault, IsTooDeepText, IsBrokenText, IsOtherText}
-use Rattle.repliss_cli.proofs.Readings.{some_place, one_tree}
+use Rattle.repliss_cli.specs.Answers.{IsSyntaxFault, IsTooDeepText, IsBrokenText, IsLimitText, IsOtherText}
+use Rattle.repliss_cli.proofs.Readings.{some_place}
 
 -- as many as the tokens
 as_many : {text : List ℕ} {ts : List Token} {us : List Tok} → ToksOf text ts us → length us ≡ length ts
@@ -64,16 +62,6 @@ syntax_fault {k = k} {t = t} short lexed (us, (rs, also, of), is) found =
 pub too_deep_text : {content : List ℕ} {k : ℕ} → length content ≤ 262144 → (us : List Tok) × HasToks content us × IsTooDeep 64 us k → IsTooDeepText content
 too_deep_text {k = k} short (us, has, is) = let (p, there) = some_place us k is.0 in record { short = short; at = p; deep = (us, k, has, is, there) }
 
--- the text's tree is no program of the first form
-pub other_text : {content : List ℕ} {t : List DeclTree} → length content ≤ 262144 → IsTextWithin 64 content t → IsLawful t → ((p : Prog) → IsProgramOf t p → ⊥) → IsOtherText content
-other_text {t = t} short text lawful none = record {
-  short = short;
-  tree = t;
-  text = text;
-  lawful = lawful;
-  other = λ p first. none p (subst (λ t. IsProgramOf t p) (one_tree first.text text) first.program);
-}
-
 many_paths : (procs : List Proc) (n : ℕ) (q : Proc) → slice_get procs n ≡ Some q → 1024 < proc_paths q → All HasFewPaths procs → ⊥
 many_paths [] n q is past all = cc
 many_paths (first ∷ procs) zero q is past all =
@@ -88,38 +76,30 @@ past_limits p (err.Paths n) first other within = let (q, is, past) = first.past 
 past_limits p err.Goals (few, many) other within = let few = within.few_goals in omega (arith, many, few)
 past_limits p err.Memory first other within = other refl
 
--- the program of the text's tree is that of a text of the first form
-pub first_text : {content : List ℕ} {p : Prog} → length content ≤ 262144 → (t : List DeclTree) × IsTextWithin 64 content t × IsLawful t × IsProgramOf t p → IsWithinLimits p → IsFirstText content p
-first_text short (t, text, lawful, is) within = record { short = short; tree = t; text = text; lawful = lawful; program = is; within = within }
+-- a text, and its program
+abbrev pub IsTextOf : List ℕ → Prog → Type 0
+IsTextOf content p = (t : List DeclTree) × IsTextWithin 64 content t × HasProgram t p
 
--- the program of the text's tree passes a limit
-pub past_text : {content : List ℕ} {p : Prog} → length content ≤ 262144 → (t : List DeclTree) × IsTextWithin 64 content t × IsLawful t × IsProgramOf t p → (IsWithinLimits p → ⊥) → IsOtherText content
-past_text {p = p} short (t, text, lawful, is) past = record {
-  short = short;
-  tree = t;
-  text = text;
-  lawful = lawful;
-  other = λ q first. past (subst IsWithinLimits (sym (only_program t p q is (subst (λ t. IsProgramOf t q) (one_tree first.text text) first.program))) first.within);
-}
+-- the text's program is of the first form and within the limits
+pub first_text : {content : List ℕ} {p : Prog} → length content ≤ 262144 → IsTextOf content p → IsFirstForm p → IsWithinLimits p → IsFirstText content p
+first_text short (t, text, has) form within = record { short = short; tree = t; text = text; program = has; form = form; within = within }
+
+-- it isn't both
+pub other_text : {content : List ℕ} {p : Prog} → length content ≤ 262144 → IsTextOf content p → (IsFirstForm p → IsWithinLimits p → ⊥) → IsOtherText content
+other_text {p = p} short (t, text, has) other = record { short = short; tree = t; text = text; program = p; has = has; other = other }
+
+pub past_text : {content : List ℕ} {p : Prog} → length content ≤ 262144 → IsTextOf content p → (IsWithinLimits p → ⊥) → IsOtherText content
+past_text short is past = other_text short is (λ form. past)
+
+pub unlike_text : {content : List ℕ} {p : Prog} → length content ≤ 262144 → IsTextOf content p → (IsFirstForm p → ⊥) → IsOtherText content
+unlike_text short is unlike = other_text short is (λ form. absurd (unlike form))
 
 -- the first fault that was found is that of the text
-pub broken_text : {content : List ℕ} {t : List DeclTree} {found : Option Fault} {f : Fault}
-    → length content ≤ 262144 → IsTextWithin 64 content t → found ≡ first_fault t → found ≡ Some f
+pub broken_text : {content : List ℕ} {t : List DeclTree} {f : Fault}
+    → length content ≤ 262144 → IsTextWithin 64 content t → IsFirstFault t (Some f)
     → IsBrokenText content f.rule (place_of content f.span.from)
-broken_text {t = t} {f = f} short text exact some = record {
-  short = short;
-  tree = t;
-  text = text;
-  fault = f;
-  first = subst (λ o. IsFirstFault t o) (sym exact ∙ some) (fault_least t);
-  broken = refl;
-  stands = refl;
-}
+broken_text {t = t} {f = f} short text first = record { short = short; tree = t; text = text; fault = f; first = first; broken = refl; stands = refl }
 
--- no fault was found
-pub lawful_text : (t : List DeclTree) (found : Option Fault) → found ≡ first_fault t → found ≡ None → IsLawful t
-lawful_text t found exact none = none_lawful t (sym exact ∙ none)
-
--- what is said where there is no program
-pub where_none : {found : Option Program} {P : Type 0} → found ≡ None → IfNone found P → P
-where_none {P = P} none said = subst (λ found. IfNone found P) none said
+pub limit_text : {content : List ℕ} {t : List DeclTree} {passed : LimitName}
+    → length content ≤ 262144 → IsTextWithin 64 content t → PassesLimit t passed → IsLimitText content passed
+limit_text {t = t} short text passes = record { short = short; tree = t; text = text; passes = passes }

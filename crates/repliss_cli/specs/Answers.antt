@@ -2,6 +2,9 @@
 use Rattle.std.specs.Prelude.{◌≡◌, ◌≢◌, ℕ, ◌+◌, ◌<◌, ◌≤◌, List, [], ◌∷◌, length, Option, IfSome, IsSome, slice_get}
 use Rattle.std.specs.Option.{option_map_or}
 use Rattle.std.specs.declared.option.Option.TheVariants.{None, Some}
+use Rattle.rp_lang.specs.declared.limit.LimitName.{LimitName}
+use Rattle.rp_lang.specs.declared.limit.LimitName.TheVariants as limit
+use Rattle.rp_lang.specs.FirstForm.{IsFirstForm}
 use Rattle.rp_lang.specs.Programs.{Prog}
 use Rattle.rp_io.specs.Files.{Contents, content_of}
 use Rattle.rp_io.specs.Sinks.{Puts, PutsPrefix}
@@ -10,14 +13,16 @@ use Rattle.rp_grammar.specs.Lexed.{Faulty}
 use Rattle.rp_grammar.specs.Trees.{DeclTree}
 use Rattle.rp_grammar.specs.Texts.{IsTextWithin, IsBadAt, IsTooDeepAt}
 use Rattle.type_rules.specs.declared.fault.Fault.{Fault}
-use Rattle.type_rules.specs.Faults.{IsFirstFault, IsLawful}
+use Rattle.type_rules.specs.Faults.{IsFirstFault}
+use Rattle.desugaring.specs.Limits.{HasProgram, PassesLimit}
 use Rattle.event_machine.specs.Runs.{IsSafe}
 use Rattle.rp_span.specs.declared.Pos.{Pos}
 use Rattle.rp_span.specs.Places.{place_of}
+use Rattle.rp_verify.specs.Verdicts.{IsWithinLimits}
 use Rattle.event_machine.specs.Goals.{Goal, goals, path, IsFalseGoal}
 use Rattle.repliss_cli.specs.declared.report.GoalLine.{GoalLine}
 use Rattle.repliss_cli.specs.declared.report.Report.{Report}
-use Rattle.repliss_cli.specs.declared.report.Report.TheVariants.{Verified, Unproved, Usage, ProgramBytes, Lex, Syntax, Depth, Rule, NotYet}
+use Rattle.repliss_cli.specs.declared.report.Report.TheVariants.{Verified, Unproved, Usage, Lex, Syntax, Limit, Rule, NotYet}
 use Rattle.repliss_cli.specs.declared.report.Status.{Status}
 use Rattle.repliss_cli.specs.declared.report.Status.TheVariants.{ReadFault, WriteFault, NoMemory}
 use Rattle.repliss_cli.specs.Texts.{report_text, status_of}
@@ -87,13 +92,28 @@ pub record IsBrokenText (content : List ℕ) (rule : ℕ) (pos : Pos) : Type 0 w
   pub broken : rule ≡ fault.rule
   pub stands : pos ≡ place_of content fault.span.from
 
--- The bytes are a program's text within the nestings that breaks no type rule, and not of the first form.
+-- The bytes are a program's text, and the first limit that its program passes is this one.
+pub record IsLimitText (content : List ℕ) (passed : LimitName) : Type 0 where
+  pub short : length content ≤ 262144
+  pub tree : List DeclTree
+  pub text : IsTextWithin 64 content tree
+  pub passes : PassesLimit tree passed
+
+-- The limit that the bytes pass: on their number, on the nesting of their tokens, or on programs.
+pub data IsPastLimit (content : List ℕ) : LimitName → Type 0 where
+  past_bytes : 262144 < length content → IsPastLimit content limit.ProgramBytes
+  past_nesting : IsTooDeepText content → IsPastLimit content limit.Depth
+  past_program : {passed : LimitName} → IsLimitText content passed → IsPastLimit content passed
+
+-- The bytes are the text of a program within all limits on programs, and not of the first form.
 pub record IsOtherText (content : List ℕ) : Type 0 where
   pub short : length content ≤ 262144
   pub tree : List DeclTree
   pub text : IsTextWithin 64 content tree
-  pub lawful : IsLawful tree
-  pub other : (p : Prog) → IsFirstText content p → ⊥
+  pub program : Prog
+  pub has : HasProgram tree program
+  -- it isn't over truth values, or has too many paths or goals
+  pub other : IsFirstForm program → IsWithinLimits program → ⊥
 
 -- the content of the named file is such: that which the files tell, or, where they don't, some content
 abbrev pub OnContent : Option (List ℕ) → (List ℕ → Type 0) → Type 0
@@ -109,10 +129,9 @@ abbrev pub IsReportOf : List ℕ → Report → Type 0
 IsReportOf content (Verified count) = IsVerified content count
 IsReportOf content (Unproved count lines) = IsUnproved content count lines
 IsReportOf content Usage = ⊥
-IsReportOf content ProgramBytes = 262144 < length content
 IsReportOf content (Lex fault pos) = IsLexFault content fault pos
 IsReportOf content (Syntax pos) = IsSyntaxFault content pos
-IsReportOf content Depth = IsTooDeepText content
+IsReportOf content (Limit passed) = IsPastLimit content passed
 IsReportOf content (Rule rule pos) = IsBrokenText content rule pos
 IsReportOf content NotYet = IsOtherText content
 

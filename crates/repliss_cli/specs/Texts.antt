@@ -1,13 +1,15 @@
 -- The text of a report.
 use Rattle.std.specs.Prelude.{ℕ, ◌==◌, ltb, length, List, [], ◌∷◌, ◌++◌, flat_map, codes, decimal, if◌then◌else◌}
 use Rattle.rp_span.specs.declared.Pos.{Pos}
+use Rattle.rp_lang.specs.declared.limit.LimitName.{LimitName}
+use Rattle.rp_lang.specs.Limits.{limit_text, limit_number}
 use Rattle.rp_grammar.specs.declared.LexFault.{LexFault}
 use Rattle.rp_grammar.specs.declared.LexFault.TheVariants.{BadByte, OpenString, NumberRange}
 use Rattle.repliss_cli.specs.declared.report.GoalLine.{GoalLine}
 use Rattle.repliss_cli.specs.declared.report.Status.{Status}
 use Rattle.repliss_cli.specs.declared.report.Status.TheVariants.{Fine, Found, Refused, ReadFault, WriteFault, NoMemory}
 use Rattle.repliss_cli.specs.declared.report.Report.{Report}
-use Rattle.repliss_cli.specs.declared.report.Report.TheVariants.{Verified, Unproved, Usage, ProgramBytes, Lex, Syntax, Depth, Rule, NotYet}
+use Rattle.repliss_cli.specs.declared.report.Report.TheVariants.{Verified, Unproved, Usage, Lex, Syntax, Limit, Rule, NotYet}
 
 -- the end of a line that counts goals: `s` is left out after 1 alone
 abbrev pub goals_end : ℕ → List ℕ
@@ -45,15 +47,18 @@ zero_before rule = if ltb rule 10 then codes "0" else codes ""
 abbrev pub rule_line : ℕ → Pos → List ℕ
 rule_line rule pos = codes "refused: type T" ++ (zero_before rule ++ (decimal rule ++ place_text pos))
 
+-- the limit's name, and the number that is passed
+abbrev pub limit_line : LimitName → List ℕ
+limit_line limit = codes "refused: limit " ++ (limit_text limit ++ (codes " " ++ (decimal (limit_number limit) ++ codes "\n")))
+
 -- the bytes of a report
 abbrev pub report_text : Report → List ℕ
 report_text (Verified goals) = verified_line goals
 report_text (Unproved goals list) = unproved_line (length list) goals ++ flat_map goal_line list
 report_text Usage = codes "refused: usage\n" ++ codes "usage: repliss verify FILE\n"
-report_text ProgramBytes = codes "refused: limit program bytes 262144\n"
 report_text (Lex fault pos) = codes "refused: lex " ++ (fault_name fault ++ place_text pos)
 report_text (Syntax pos) = codes "refused: syntax" ++ place_text pos
-report_text Depth = codes "refused: limit depth 64\n"
+report_text (Limit limit) = limit_line limit
 report_text (Rule rule pos) = rule_line rule pos
 report_text NotYet = codes "refused: not yet\n"
 
@@ -62,10 +67,9 @@ abbrev pub status_of : Report → Status
 status_of (Verified goals) = Fine
 status_of (Unproved goals list) = Found
 status_of Usage = Refused
-status_of ProgramBytes = Refused
 status_of (Lex fault pos) = Refused
 status_of (Syntax pos) = Refused
-status_of Depth = Refused
+status_of (Limit limit) = Refused
 status_of (Rule rule pos) = Refused
 status_of NotYet = Refused
 

@@ -9,23 +9,23 @@ ghost use Rattle.rp_grammar.specs.Lexed.{Lexed};
 ghost use Rattle.rp_grammar.specs.Trees.{DeclTree};
 ghost use Rattle.rp_grammar.specs.Texts.{IsTextWithin};
 ghost use Rattle.rp_ast.specs.View.{ast_view};
-ghost use Rattle.rp_types.specs.FirstProgram.{IsProgramOf};
-ghost use Rattle.type_rules.specs.Faults.{IsLawful};
+ghost use Rattle.rp_lang.specs.FirstForm.{IsFirstForm};
+ghost use Rattle.desugaring.specs.Limits.{HasProgram};
 ghost use Rattle.repliss_cli.specs.means.Lines.{line_for};
 
 use crate::places::{marks_of, place_in, place_near};
 use crate::report::{GoalLine, Report};
 use event_machine::false_by_trying;
+use first_form::is_first_form;
+use resolve::{TypeErr, resolve};
 use rp_ast::Ast;
-use rp_lang::Program;
+use rp_lang::{LimitName, Program};
 use rp_lexer::{LexErr, Token, lex};
 use rp_parser::{ParseErr, parse};
 use rp_span::{Pos, Text};
-use rp_types::first_program;
 use rp_value::{List, Memory, copy_bytes, copy_list};
 use rp_verify::{GoalErr, Unproved, Verdict, verify};
 use std::alloc::Global;
-use type_faults::first_fault;
 
 /// The name of a procedure.
 fn name_of(program: &Program, proc: Option<u32>) -> &[u8]
@@ -78,9 +78,10 @@ fn lines_for(
 }
 
 /// The report on a program of the first form.
-fn report_on_program(alloc: Global, text: &Text, program: &Program) -> Result<Report, Memory>
+fn report_on_first(alloc: Global, text: &Text, program: &Program) -> Result<Report, Memory>
     requires read { (tree : Items DeclTree) × IsTextWithin 64 text.now tree
-        × IsLawful tree × IsProgramOf tree (program_view program.now) }
+        × HasProgram tree (program_view program.now) }
+    requires first_form { IsFirstForm (program_view program.now) }
     requires short { length text.now ≤ 262144 }
     ensures { IfOk result (λ report. IsReportOf text.now report) }
 {
@@ -98,21 +99,17 @@ fn report_on_program(alloc: Global, text: &Text, program: &Program) -> Result<Re
     }
 }
 
-/// The report on a text with this tree, in which no type rule is broken.
-fn report_on_lawful(alloc: Global, text: &Text, ast: &Ast) -> Result<Report, Memory>
-    requires read { IsTextWithin 64 text.now (ast_view ast.now) }
-    requires lawful { IsLawful (ast_view ast.now) }
+/// The report on a text's program.
+fn report_on_program(alloc: Global, text: &Text, program: &Program) -> Result<Report, Memory>
+    requires read { (tree : Items DeclTree) × IsTextWithin 64 text.now tree
+        × HasProgram tree (program_view program.now) }
     requires short { length text.now ≤ 262144 }
     ensures { IfOk result (λ report. IsReportOf text.now report) }
 {
-    match first_program(alloc, ast) {
-        Ok(Some(program)) => {
-            let report = report_on_program(alloc, text, &program);
-            program.let_go();
-            report
-        }
-        Ok(None) => Ok(Report::NotYet),
-        Err(Memory) => Err(Memory),
+    if is_first_form(program) {
+        report_on_first(alloc, text, program)
+    } else {
+        Ok(Report::NotYet)
     }
 }
 
@@ -122,12 +119,18 @@ fn report_on_tree(alloc: Global, text: &Text, ast: &Ast) -> Result<Report, Memor
     requires short { length text.now ≤ 262144 }
     ensures { IfOk result (λ report. IsReportOf text.now report) }
 {
-    match first_fault(alloc, ast)? {
-        None => report_on_lawful(alloc, text, ast),
-        Some(fault) => Ok(Report::Rule {
-            rule: fault.rule,
-            at: place_in(text, fault.span.from),
+    match resolve(alloc, ast) {
+        Ok(program) => {
+            let report = report_on_program(alloc, text, &program);
+            program.let_go();
+            report
+        }
+        Err(TypeErr::Rule { rule, span }) => Ok(Report::Rule {
+            rule,
+            at: place_in(text, span.from),
         }),
+        Err(TypeErr::Limit(limit)) => Ok(Report::Limit(limit)),
+        Err(TypeErr::Memory) => Err(Memory),
     }
 }
 
@@ -146,7 +149,7 @@ fn report_on_tokens(alloc: Global, text: &Text, tokens: &List<Token>) -> Result<
         Err(ParseErr::Syntax { token }) => Ok(Report::Syntax {
             at: place_in(text, tokens[token as usize].span.from),
         }),
-        Err(ParseErr::TooDeep { .. }) => Ok(Report::Depth),
+        Err(ParseErr::TooDeep { .. }) => Ok(Report::Limit(LimitName::Depth)),
         Err(ParseErr::Memory) => Err(Memory),
     }
 }

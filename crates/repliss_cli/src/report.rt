@@ -1,8 +1,9 @@
 // Reports, their statuses and their lines.
 ghost use Rattle.std.specs.Prelude.{◌≡◌, ◌++◌, ◌∷◌, [], codes, decimal, flat_map, length, string_bytes, IfOk, OnOk};
 ghost use Rattle.rp_io.specs.Sinks.{bytes_of};
-ghost use Rattle.repliss_cli.specs.Texts.{goal_line, choice_text, fault_name, goals_end, path_text, place_text, report_text, rule_line, status_of, number_of, unproved_line, verified_line, zero_before};
+ghost use Rattle.repliss_cli.specs.Texts.{goal_line, choice_text, fault_name, goals_end, path_text, limit_line, place_text, report_text, rule_line, status_of, number_of, unproved_line, verified_line, zero_before};
 
+use rp_lang::LimitName;
 use rp_lexer::LexFault;
 use rp_span::Pos;
 use rp_value::{Bytes, List, Memory};
@@ -50,12 +51,12 @@ pub enum Report {
     Verified { goals: u32 },
     Unproved { goals: u32, list: List<GoalLine> },
     Usage,
-    ProgramBytes,
     /// The first fault among the tokens, and where it stands.
     Lex { fault: LexFault, at: Pos },
     /// Where the first token stands that can't follow.
     Syntax { at: Pos },
-    Depth,
+    /// The limit that the text or its program passes.
+    Limit(LimitName),
     /// The first broken type rule, by its number, and where the offending item begins.
     Rule { rule: u8, at: Pos },
     NotYet,
@@ -70,10 +71,9 @@ impl Report {
             Report::Verified { .. } => Status::Fine,
             Report::Unproved { .. } => Status::Found,
             Report::Usage
-            | Report::ProgramBytes
             | Report::Lex { .. }
             | Report::Syntax { .. }
-            | Report::Depth
+            | Report::Limit(_)
             | Report::Rule { .. }
             | Report::NotYet => Status::Refused,
         }
@@ -213,6 +213,15 @@ fn lex_line(alloc: Global, fault: LexFault, at: &Pos) -> Result<String, Memory>
     Ok(format!(in alloc; "refused: lex {name} at {line}:{column}\n")?)
 }
 
+/// The line of a limit that is passed.
+fn limit_line(alloc: Global, limit: LimitName) -> Result<String, Memory>
+    ensures { IfOk result (λ line. string_bytes line ≡ limit_line limit) }
+{
+    let name = limit.name();
+    let number = limit.number();
+    Ok(format!(in alloc; "refused: limit {name} {number}\n")?)
+}
+
 /// What stands before a type rule's number, so that it has two digits.
 fn zero_before(rule: u8) -> &'static str
     ensures { result.now ≡ zero_before rule }
@@ -263,14 +272,13 @@ fn add_lines(alloc: Global, lines: &mut Vec<Vec<u8>>, report: &Report) -> Result
             add_line(alloc, lines, "refused: usage\n")?;
             add_line(alloc, lines, "usage: repliss verify FILE\n")
         }
-        Report::ProgramBytes => add_line(alloc, lines, "refused: limit program bytes 262144\n"),
         Report::Lex { fault, at } => add_line(alloc, lines, lex_line(alloc, *fault, at)?.as_str()),
         Report::Syntax { at } => add_line(
             alloc,
             lines,
             line_with_place(alloc, "refused: syntax", at)?.as_str(),
         ),
-        Report::Depth => add_line(alloc, lines, "refused: limit depth 64\n"),
+        Report::Limit(limit) => add_line(alloc, lines, limit_line(alloc, *limit)?.as_str()),
         Report::Rule { rule, at } => add_line(alloc, lines, rule_line(alloc, *rule, at)?.as_str()),
         Report::NotYet => add_line(alloc, lines, "refused: not yet\n"),
     }

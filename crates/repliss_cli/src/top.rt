@@ -9,8 +9,10 @@ ghost use Rattle.repliss_cli.specs.Texts.{report_text, status_of};
 ghost use Rattle.repliss_cli.specs.Answers.{AreTold, HasCause, IsAnswer, IsCut, IsCutShort, Tells};
 
 use crate::judge::judge;
+use crate::laws::a_text_has_one_report;
 use crate::report::{Report, Status, lines};
 use rp_io::{Failed, Files, ReadErr, Sink, put_lines, read_all};
+use rp_lang::LimitName;
 use rp_value::Memory;
 use std::alloc::Global;
 
@@ -63,7 +65,7 @@ enum Stop {
     NoMemory,
 }
 
-#[tactic(auto, using(crate::proofs::Causes::content_cause, crate::proofs::Causes::too_long_cause, crate::proofs::Causes::some_cause))]
+#[tactic(auto, using(crate::proofs::Causes::content_cause, crate::proofs::Causes::too_long_cause))]
 /// The report that the words ask for.
 fn report_for<F: Files>(alloc: Global, words: &[String], files: &mut F) -> Result<Report, Stop>
     ensures cause { IfOk result (λ report. HasCause words.now (F.told files.old) report) }
@@ -76,6 +78,8 @@ fn report_for<F: Files>(alloc: Global, words: &[String], files: &mut F) -> Resul
     ensures unsound { IsErrOf result Stop.Unread
         → IfSome (named words.now) (λ name. Contains (F.sound files.old) name → ⊥) }
 {
+    // whatever the file's content, some report's cause stands
+    a_text_has_one_report();
     let Some(name) = file_of(words) else {
         return Ok(Report::Usage);
     };
@@ -84,7 +88,7 @@ fn report_for<F: Files>(alloc: Global, words: &[String], files: &mut F) -> Resul
             Ok(report) => Ok(report),
             Err(Memory) => Err(Stop::NoMemory),
         },
-        Err(ReadErr::TooLong) => Ok(Report::ProgramBytes),
+        Err(ReadErr::TooLong) => Ok(Report::Limit(LimitName::ProgramBytes)),
         Err(ReadErr::Failed) => Err(Stop::Unread),
         Err(ReadErr::Memory) => Err(Stop::NoMemory),
     }

@@ -27,8 +27,38 @@ fn add_times(text: &mut Vec<u8>, piece: &[u8], times: usize) -> Result<(), Memor
     Ok(())
 }
 
+/// Adds a line in which `%` is this number, and `$` the one before.
+fn add_numbered(alloc: Global, text: &mut Vec<u8>, piece: &str, own: usize) -> Result<(), Memory> {
+    let before = own.saturating_sub(1);
+    let own = format!(in alloc; "{own}")?;
+    let before = format!(in alloc; "{before}")?;
+    for byte in piece.as_bytes() {
+        match *byte {
+            b'%' => text.extend_from_slice(own.as_bytes())?,
+            b'$' => text.extend_from_slice(before.as_bytes())?,
+            other => text.push(other)?,
+        }
+    }
+    text.push(b'\n')?;
+    Ok(())
+}
+
+/// Adds a line for each of the numbers between those that stand in front of the piece.
+fn add_each(alloc: Global, text: &mut Vec<u8>, said: &str) -> Result<(), Memory> {
+    let Some((first, rest)) = said.split_once(' ') else {
+        return Ok(());
+    };
+    let Some((last, piece)) = rest.split_once(' ') else {
+        return Ok(());
+    };
+    for own in number(first)..=number(last) {
+        add_numbered(alloc, text, piece, own)?;
+    }
+    Ok(())
+}
+
 /// Adds what a line says of the text, and answers whether it says any of it.
-fn add_part(text: &mut Vec<u8>, line: &str) -> Result<bool, Memory> {
+fn add_part(alloc: Global, text: &mut Vec<u8>, line: &str) -> Result<bool, Memory> {
     if let Some(piece) = behind(line, "text") {
         text.extend_from_slice(piece.as_bytes())?;
     } else if let Some(piece) = behind(line, "line") {
@@ -42,6 +72,8 @@ fn add_part(text: &mut Vec<u8>, line: &str) -> Result<bool, Memory> {
         ' ',
     )) {
         add_times(text, &[byte.parse::<u8>().unwrap_or(0)], number(times))?;
+    } else if let Some(said) = behind(line, "each") {
+        add_each(alloc, text, said)?;
     } else {
         return Ok(false);
     }
@@ -91,7 +123,7 @@ impl<'a> Row<'a> {
         let mut text = Vec::new(alloc);
         let mut is_said = false;
         for line in self.lines.split('\n') {
-            if add_part(&mut text, line)? {
+            if add_part(alloc, &mut text, line)? {
                 is_said = true;
             }
         }

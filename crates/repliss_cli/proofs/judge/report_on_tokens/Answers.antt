@@ -1,5 +1,5 @@
 use Rattle.std.proofs.Common.{◌≡◌, ◌<◌, Some, slice_get, length, subst, sym}
-use Rattle.repliss_cli.specs.Answers.{IsSyntaxFault}
+use Rattle.repliss_cli.specs.Answers.{IsSyntaxFault, past_nesting}
 use Rattle.repliss_cli.proofs.Refused.{bad_token, deep_token, syntax_fault, too_deep_text, within_tokens}
 use Rattle.repliss_cli.proofs.judge.report_on_tokens.Goals as goal
 
@@ -15,4 +15,5 @@ returns-in-Err-Syntax c =
     (syntax_fault c.requires.short c.requires.lexed (bad_token c.bytes.ensures.bytes c.in-Err-Syntax.field-0-is c.in-Err-Syntax.ensures.fault) found)
 
 pub returns-in-Err-TooDeep : goal.returns-in-Err-TooDeep
-returns-in-Err-TooDeep c = too_deep_text c.requires.short (deep_token c.bytes.ensures.bytes c.in-Err-TooDeep.field-0-is c.in-Err-TooDeep.ensures.fault)
+returns-in-Err-TooDeep c =
+    past_nesting (too_deep_text c.requires.short (deep_token c.bytes.ensures.bytes c.in-Err-TooDeep.field-0-is c.in-Err-TooDeep.ensures.fault))
