@@ -16,13 +16,12 @@ use Rattle.crdt_defs.specs.Queries.{question, answer_at, ask, held_in, winner_in
 use Rattle.rp_lang.specs.Paths.{field_in, root_crdt}
 use Rattle.rp_logic.specs.Terms.{Tm}
 use Rattle.rp_logic.specs.Elements.{Elem}
-use Rattle.rp_logic.specs.Truth.{Meaning, Holds, value}
+use Rattle.rp_logic.specs.Truth.{Meaning, Holds}
 use Rattle.rp_logic.proofs.SortLaws.{no}
 use Rattle.crdt_enc.specs.Ways.{Way, Root, AtField, AtKey, depth}
-use Rattle.crdt_enc.specs.Elements.{elem_of}
 use Rattle.crdt_enc.specs.QueryFormulas.{untrue, answer_formula, ask_formula, query_by, query_formula}
 use Rattle.crdt_enc.specs.FitsParts.{FitsCalls, FitsView}
-use Rattle.crdt_enc.specs.means.Counting.{Both, terms, counted, KeysRead, WayFits, CallsFit}
+use Rattle.crdt_enc.specs.means.Counting.{Both, terms, counted, EachBoth, Read, KeysRead, WayFits, CallsFit}
 use Rattle.crdt_enc.proofs.QuestionLaws.{Leaf, add-wins, remove-wins, many-values, some-counts}
 
 abbrev pub terms_of : List Both → List Tm
@@ -35,8 +34,7 @@ vals_of (b ∷ bs) = b.val ∷ vals_of bs
 
 -- each term has the element of its value
 abbrev pub AllRead : Meaning → List Elem → List Both → Type 0
-AllRead M base [] = Unit {0}
-AllRead M base (b ∷ bs) = (value M base b.term ≡ elem_of b.val) × AllRead M base bs
+AllRead M base bs = EachBoth (Read M base) bs
 
 -- the arguments fit where operations hold theirs
 abbrev pub LeafFits : Prog → Way Both → Question → List Both → Type 0

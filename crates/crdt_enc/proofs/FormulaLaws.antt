@@ -156,7 +156,7 @@ truth-val : (b : Bool) → truths.is_true (truths.truth_val b) ≡ b
 truth-val true = refl
 truth-val false = refl
 
-asked-query : (queries : List QueryDecl) (n : ℕ) → asks (slice_get queries n) ≡ true → (q : QueryDecl) × (slice_get queries n ≡ Some q) × (is_get q.kind ≡ false)
+pub asked-query : (queries : List QueryDecl) (n : ℕ) → asks (slice_get queries n) ≡ true → (q : QueryDecl) × (slice_get queries n ≡ Some q) × (is_get q.kind ≡ false)
 asked-query queries n h = go (slice_get queries n) refl h
   where
     pick : (b : Bool) → (if b then false else true) ≡ true → b ≡ false
@@ -171,11 +171,11 @@ or-true : (a b : Bool) → a || b ≡ true → b ≡ false → a ≡ true
 or-true true b h e = refl
 or-true false b h e = absurd (true≢false (sym h ∙ e))
 
-or-false : (a b : Bool) → a || b ≡ true → a ≡ false → b ≡ true
+pub or-false : (a b : Bool) → a || b ≡ true → a ≡ false → b ≡ true
 or-false true b h e = absurd (true≢false e)
 or-false false b h e = h
 
-question-types : (o : Option QueryDecl) (reads types' : Bool) → asks o ≡ true → (is_asked o && reads && types') || is_ty (typing.given (reads && types') (typing.value_asked o)) bool_ty ≡ true → types' ≡ true
+pub question-types : (o : Option QueryDecl) (reads types' : Bool) → asks o ≡ true → (is_asked o && reads && types') || is_ty (typing.given (reads && types') (typing.value_asked o)) bool_ty ≡ true → types' ≡ true
 question-types o reads true e h = refl
 question-types None reads false e h = no e
 question-types (Some q) true false e h = go (is_get q.kind) h
@@ -189,7 +189,7 @@ question-types (Some q) false false e h = go (is_get q.kind) h
     go true h = h
     go false h = h
 
-not-asked : (o : Option QueryDecl) → asks o ≡ false → is_asked o ≡ false
+pub not-asked : (o : Option QueryDecl) → asks o ≡ false → is_asked o ≡ false
 not-asked None e = refl
 not-asked (Some q) e = go (is_get q.kind) e
   where
@@ -207,7 +207,7 @@ con-no-inv : {A : Type 0} (o : Option ConDecl) → datatype_in o ≡ Some ty.Inv
 con-no-inv None h = absurd (none-some ty.Inv h)
 con-no-inv (Some decl) h = not-inv (ty.Datatype decl.of) h refl
 
-or-cases : (a b : Bool) → a || b ≡ true → (a ≡ true) ⊎ (b ≡ true)
+pub or-cases : (a b : Bool) → a || b ≡ true → (a ≡ true) ⊎ (b ≡ true)
 or-cases true b h = inl refl
 or-cases false b h = inr h
 
@@ -242,7 +242,7 @@ no-arms p at a t M vars c xs e seen (also_arm con body rest) h = go (is_among co
     go true q x y = x
     go false q x y = ((λ k. skip q k.0), y)
 
-cases-type : (p : Prog) (o : Option Ty) (found : List ℕ) → typing.are_cases p o found ≡ true → (n : ℕ) × (o ≡ Some (ty.Datatype n))
+pub cases-type : (p : Prog) (o : Option Ty) (found : List ℕ) → typing.are_cases p o found ≡ true → (n : ℕ) × (o ≡ Some (ty.Datatype n))
 cases-type p (Some (ty.Datatype n)) found h = (n, refl)
 cases-type p None found h = no h
 cases-type p (Some ty.Int) found h = no h

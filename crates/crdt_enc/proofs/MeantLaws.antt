@@ -60,7 +60,7 @@ none-is : (o : Option Ty) → is_none o ≡ true → o ≡ None
 none-is None h = refl
 none-is (Some t) h = no h
 
-bare-there : (procs : List Proc) (n : ℕ) → is_proc_without_result (slice_get procs n) ≡ true → (q : Proc) × (slice_get procs n ≡ Some q) × (q.result ≡ None)
+pub bare-there : (procs : List Proc) (n : ℕ) → is_proc_without_result (slice_get procs n) ≡ true → (q : Proc) × (slice_get procs n ≡ Some q) × (q.result ≡ None)
 bare-there procs n h = go (slice_get procs n) refl h
   where
     go : (o : Option Proc) → slice_get procs n ≡ o → is_proc_without_result o ≡ true → (q : Proc) × (slice_get procs n ≡ Some q) × (q.result ≡ None)
@@ -71,7 +71,7 @@ pub agree-is : (a b : Option Ty) → agree a b ≡ true → (t : Ty) × (a ≡ S
 agree-is a None h = no h
 agree-is a (Some t) h = (t, is-type a t h, refl)
 
-result-there : (procs : List Proc) (n : ℕ) (t : Ty) → proc_result (slice_get procs n) ≡ Some t → (q : Proc) × (slice_get procs n ≡ Some q) × (q.result ≡ Some t)
+pub result-there : (procs : List Proc) (n : ℕ) (t : Ty) → proc_result (slice_get procs n) ≡ Some t → (q : Proc) × (slice_get procs n ≡ Some q) × (q.result ≡ Some t)
 result-there procs n t h = go (slice_get procs n) refl h
   where
     go : (o : Option Proc) → slice_get procs n ≡ o → proc_result o ≡ Some t → (q : Proc) × (slice_get procs n ≡ Some q) × (q.result ≡ Some t)

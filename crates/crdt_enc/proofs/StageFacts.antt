@@ -136,10 +136,10 @@ pub root-fine : (p : Prog) → Facts p → (o : Option Rt) → ((root : Rt) → 
 root-fine p f None each-root c e = absurd (none-some c e)
 root-fine p f (Some root) each-root c e = ap (is_crdt p.types) (sym (same_Some root.crdt c e)) ∙ each-root root refl
 
-query-is : (p : Prog) → Facts p → (n : ℕ) (query : QueryDecl) → slice_get p.queries n ≡ Some query → is_query p.types p.cons p.roots query ≡ true
+pub query-is : (p : Prog) → Facts p → (n : ℕ) (query : QueryDecl) → slice_get p.queries n ≡ Some query → is_query p.types p.cons p.roots query ≡ true
 query-is p f n query e = each (is_query p.types p.cons p.roots) p.queries n query f.queries e
 
-query-data : (p : Prog) → Facts p → (n : ℕ) (query : QueryDecl) → slice_get p.queries n ≡ Some query → (list_all is_data query.args ≡ true) × (is_data query.result ≡ true)
+pub query-data : (p : Prog) → Facts p → (n : ℕ) (query : QueryDecl) → slice_get p.queries n ≡ Some query → (list_all is_data query.args ≡ true) × (is_data query.result ≡ true)
 query-data p f n query e =
     asked-data p.types p.cons query.kind (root_crdt (slice_get p.roots query.root))
     (root-fine p f (slice_get p.roots query.root) (λ root q. each (λ (root : Rt). is_crdt p.types root.crdt) p.roots query.root root (and_parts _ _ f.roots).1 q))
@@ -156,14 +156,14 @@ begun types (t ∷ ts) (u ∷ us) h o =
     and_from (is_data t) (list_all is_data ts) (ap is_data (sym (same-type u t b.0)) ∙ ordinary-data types u d.0) (begun types ts us b.1 d.1)
 
 -- the parts of the test, the last one outermost
-params-data : (p : Prog) → Facts p → (n : ℕ) (q : Proc) → slice_get p.procs n ≡ Some q → list_all is_data q.params ≡ true
+pub params-data : (p : Prog) → Facts p → (n : ℕ) (q : Proc) → slice_get p.procs n ≡ Some q → list_all is_data q.params ≡ true
 params-data p f n q e =
     let all = procedure-of p f n q e in
     let four = and_parts _ _ (and_parts _ _ (and_parts _ _ (and_parts _ _ all).0).0).0 in
     let two = and_parts _ _ four.0 in
     begun p.types q.params q.slots two.0 two.1
 
-result-data : (p : Prog) → Facts p → (n : ℕ) (q : Proc) (t : Ty) → slice_get p.procs n ≡ Some q → q.result ≡ Some t → is_data t ≡ true
+pub result-data : (p : Prog) → Facts p → (n : ℕ) (q : Proc) (t : Ty) → slice_get p.procs n ≡ Some q → q.result ≡ Some t → is_data t ≡ true
 result-data p f n q t e is =
     let all = procedure-of p f n q e in
     let four = and_parts _ _ (and_parts _ _ (and_parts _ _ (and_parts _ _ all).0).0).0 in

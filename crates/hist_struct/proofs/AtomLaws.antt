@@ -66,11 +66,11 @@ all-high p =
 pub free-at : (p : Prog) (con n : ℕ) → n < length p.types.atoms → is_con_of (slice_get (con_decls p) con) (atom_sort n) ≡ false
 free-at p con n l = high-free (4 + length p.types.atoms) (con_decls p) con (atom_sort n) (all-high p) (omega (arith, l))
 
-size-at : (a b k u n : ℕ) → n < k → get_or (a ∷ b ∷ replicate k u) (atom_sort n) 0 ≡ u
+pub size-at : (a b k u n : ℕ) → n < k → get_or (a ∷ b ∷ replicate k u) (atom_sort n) 0 ≡ u
 size-at a b k u n l = ap (λ i. get_or (a ∷ b ∷ replicate k u) i 0) (let e : 2 + n ≡ suc (suc n) = omega arith in e) ∙ get_or-replicate k n u 0 l
 
-pub atoms-fit : (x : Step) (consts : List ℕ) (reads : ℕ) → FitsAtoms x.program (meaning_of (sig_at x consts reads) x) x.new.universe
-atoms-fit x consts reads = record {
+pub atoms-fit : (x : Step) (consts : List ℕ) → FitsAtoms x.program (meaning_of (sig_at x consts) x) x.new.universe
+atoms-fit x consts = record {
   atoms = λ n k l lk. and_from (is_plain (slice_get (sorts_of x.program) (atom_sort n))) (nat_lt k (size n)) (ap is_plain (plain-at x.program n l)) (ap (nat_lt k) (sized n l) ∙ lt-true k x.new.universe lk);
   atom_points = point;
 }
@@ -81,7 +81,7 @@ atoms-fit x consts reads = record {
     sized : (n : ℕ) → n < length x.program.types.atoms → get_or (length x.new.calls ∷ length x.new.invocations ∷ replicate (length x.program.types.atoms) x.new.universe) (atom_sort n) 0 ≡ x.new.universe
     sized n l = size-at (length x.new.calls) (length x.new.invocations) (length x.program.types.atoms) x.new.universe n l
 
-    point : (n : ℕ) (e : Elem) → n < length x.program.types.atoms → Is (meaning_of (sig_at x consts reads) x) (atom_sort n) e → (k : ℕ) × (e ≡ Point k) × (k < x.new.universe)
+    point : (n : ℕ) (e : Elem) → n < length x.program.types.atoms → Is (meaning_of (sig_at x consts) x) (atom_sort n) e → (k : ℕ) × (e ≡ Point k) × (k < x.new.universe)
     point n (Point k) l h = (
       k,
       refl,

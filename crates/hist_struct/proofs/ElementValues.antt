@@ -66,12 +66,12 @@ own-con p con d l h = go (slice_get p.cons.cons con) refl
 abbrev IsValue : Prog → Ty → Elem → Type 0
 IsValue p t e = (v : Val) × (fits p t v ≡ true) × (elem_of v ≡ e)
 
-module _ (x : Step) (consts : List ℕ) (reads : ℕ) (f : Facts x.program) where
+module _ (x : Step) (consts : List ℕ) (f : Facts x.program) where
   free : (con s : ℕ) → s < 4 + length x.program.types.atoms → is_con_of (slice_get (con_decls x.program) con) s ≡ false
   free con s l = high-free (4 + length x.program.types.atoms) (con_decls x.program) con s (all-high x.program) l
 
   mutual
-    pub value-of : (t : Ty) (e : Elem) → is_ordinary x.program.types t ≡ true → is_elem (sig_at x consts reads) (structure_of x).sizes (sort_of x.program t) e ≡ true → IsValue x.program t e
+    pub value-of : (t : Ty) (e : Elem) → is_ordinary x.program.types t ≡ true → is_elem (sig_at x consts) (structure_of x).sizes (sort_of x.program t) e ≡ true → IsValue x.program t e
     value-of ty.Int (Whole n) o h = (val.Int n, refl, refl)
     value-of ty.Int (Point n) o h = no (sym (ap is_plain (ints-stand x.program)) ∙ (and_parts _ _ h).0)
     value-of ty.Int (Text bytes) o h = no (sym (ap is_str (ints-stand x.program)) ∙ h)
@@ -88,7 +88,7 @@ module _ (x : Step) (consts : List ℕ) (reads : ℕ) (f : Facts x.program) wher
         let b = and_parts (is_con_of (slice_get (con_decls x.program) con) (data_sort x.program d)) _ h in
         let own = own-con x.program con d (ltb-true d _ o) b.0 in
         let ordinary = each (λ (c : ConDecl). are_ordinary x.program.types c.fields) x.program.cons.cons con own.decl f.fields own.is in
-        let vs = values-of own.decl.fields args ordinary (ap (λ ss. are_elems (sig_at x consts reads) (structure_of x).sizes ss args) (sym own.fields) ∙ b.1) in (
+        let vs = values-of own.decl.fields args ordinary (ap (λ ss. are_elems (sig_at x consts) (structure_of x).sizes ss args) (sym own.fields) ∙ b.1) in (
           val.Con con vs.0,
           and_from (cons_to d (slice_get x.program.cons.cons con)) _ (ap (cons_to d) own.is ∙ eq-eqb own.decl.of d own.of)
               (ap (λ o. fields_fit x.program (fitting.fields_of o) vs.0) own.is ∙ vs.1),
@@ -99,14 +99,14 @@ module _ (x : Step) (consts : List ℕ) (reads : ℕ) (f : Facts x.program) wher
     value-of (ty.Datatype d) (Text bytes) o h = let decl = at-exists x.program.types.datatypes d (ltb-true d _ o) in no (sym (ap is_str (datatypes-stand x.program d decl.0 decl.1)) ∙ h)
     value-of _ e o h = no o
 
-    values-of : (ts : List Ty) (es : Elems) → are_ordinary x.program.types ts ≡ true → are_elems (sig_at x consts reads) (structure_of x).sizes (map (sort_of x.program) ts) es ≡ true
+    pub values-of : (ts : List Ty) (es : Elems) → are_ordinary x.program.types ts ≡ true → are_elems (sig_at x consts) (structure_of x).sizes (map (sort_of x.program) ts) es ≡ true
         → (vs : Vals) × (fields_fit x.program ts vs ≡ true) × (elems_in vs ≡ es)
     values-of [] no_elem o h = (no_val, refl, refl)
     values-of [] (also_elem y ys) o h = no h
     values-of (t ∷ ts) no_elem o h = no h
     values-of (t ∷ ts) (also_elem y ys) o h =
         let a = and_parts (is_ordinary x.program.types t) _ o in
-        let b = and_parts (is_elem (sig_at x consts reads) (structure_of x).sizes (sort_of x.program t) y) _ h in
+        let b = and_parts (is_elem (sig_at x consts) (structure_of x).sizes (sort_of x.program t) y) _ h in
         let v = value-of t y a.0 b.0 in
         let vs = values-of ts ys a.1 b.1 in
         (also_val v.0 vs.0, and_from (fits x.program t v.0) _ v.1 vs.1, ap (λ y. also_elem y (elems_in vs.0)) v.2 ∙ ap (also_elem y) vs.2)

@@ -1,5 +1,5 @@
 -- The structure of a step fits all parts of the state before it, and of the state after it.
-use Rattle.std.proofs.Common.{◌≡◌, ◌<◌, ℕ, true, List, refl, sym, subst}
+use Rattle.std.proofs.Common.{◌≡◌, ◌<◌, ℕ, true, List, refl, sym, subst, length}
 use Rattle.rp_lang.specs.Programs.{Prog}
 use Rattle.rp_lang.specs.WellFormed.{is_well_formed}
 use Rattle.crdt_defs.specs.Parts.{Parts}
@@ -35,15 +35,15 @@ parts-fit p M at parts universe e most atoms = record {
   differences = most.differences;
 }
 
-pub before-fits : (x : Step) (consts : List ℕ) (reads : ℕ) → is_well_formed x.program ≡ true → IsStep x → (view : ℕ)
-    → FitsParts x.program (meaning_of (sig_at x consts reads) x) (before_at view) (plain x.old)
-before-fits x consts reads w m view =
+pub before-fits : (x : Step) (consts : List ℕ) → is_well_formed x.program ≡ true → IsStep x → (view : ℕ)
+    → FitsParts x.program (meaning_of (sig_at x consts) x) (before_at view) (plain x.old)
+before-fits x consts w m view =
     let k = program-is x.program w in
-    parts-fit x.program (meaning_of (sig_at x consts reads) x) (before_at view) (plain x.old) x.new.universe (kept x w m).grows.universe
-    (fits-before (sig_at x consts reads) (sig-is x.program x.views consts reads) x k m view) (atoms-fit x consts reads)
+    parts-fit x.program (meaning_of (sig_at x consts) x) (before_at view) (plain x.old) x.new.universe (kept x w m).grows.universe
+    (fits-before (sig_at x consts) (sig-is x.program x.views consts (length x.reads)) x k m view) (atoms-fit x consts)
 
-pub after-fits : (x : Step) (consts : List ℕ) (reads : ℕ) → is_well_formed x.program ≡ true → IsStep x → (view : ℕ)
-    → FitsParts x.program (meaning_of (sig_at x consts reads) x) (after_at view) (plain x.new)
-after-fits x consts reads w m view =
-    parts-fit x.program (meaning_of (sig_at x consts reads) x) (after_at view) (plain x.new) x.new.universe refl
-    (fits-after (sig_at x consts reads) (sig-is x.program x.views consts reads) x (program-is x.program w) m view) (atoms-fit x consts reads)
+pub after-fits : (x : Step) (consts : List ℕ) → is_well_formed x.program ≡ true → IsStep x → (view : ℕ)
+    → FitsParts x.program (meaning_of (sig_at x consts) x) (after_at view) (plain x.new)
+after-fits x consts w m view =
+    parts-fit x.program (meaning_of (sig_at x consts) x) (after_at view) (plain x.new) x.new.universe refl
+    (fits-after (sig_at x consts) (sig-is x.program x.views consts (length x.reads)) x (program-is x.program w) m view) (atoms-fit x consts)

@@ -17,7 +17,8 @@ use Rattle.rp_symbols.specs.Numbers.{call_sort, inv_sort, op_fn, info_fn, op_con
 use Rattle.crdt_enc.specs.Builders.{over_two, applied}
 use Rattle.rp_symbols.specs.Numbers.{id_rel, old_result_fn}
 use Rattle.crdt_enc.specs.FitsParts.{Is, value_at}
-use Rattle.hist_struct.specs.Conditions.{Rel, Fields, StandsIn, StandsAt, cons_of, depth, PlacesAreTold}
+use Rattle.hist_struct.specs.Defaults.{most_parts}
+use Rattle.hist_struct.specs.Conditions.{Rel, Fields, StandsIn, StandsAt, cons_of, PlacesAreTold}
 use Rattle.rp_symbols.specs.Signatures.{result_list}
 use Rattle.hist_struct.specs.Axioms.{implied, is_built, in_fields, of_con, in_cons, places_in, places, each_of, places_are_told}
 use Rattle.hist_struct.proofs.Implied.{from-all, implied-is, all-both}
@@ -152,22 +153,22 @@ from-none M f P is as_ =
 
 -- the places of one constructor, where nothing else is given
 root-is : (p : Prog) (M : Meaning) (sort kind con f : ℕ) (tys : List Ty)
-    → AllTrue M (of_con (places p sort kind (depth p)) no_fm con tys (applied f (Var 0)))
-    ↔ ((v : Elem) → Is M sort v → (n : ℕ) (y : Elem) → Fields (StandsAt p (depth p)) con tys (value_at M f v) n y → Rel M (id_rel p n kind) v y)
+    → AllTrue M (of_con (places p sort kind most_parts) no_fm con tys (applied f (Var 0)))
+    ↔ ((v : Elem) → Is M sort v → (n : ℕ) (y : Elem) → Fields (StandsAt p most_parts) con tys (value_at M f v) n y → Rel M (id_rel p n kind) v y)
 root-is p M sort kind con f tys =
-    let r = con-is p M sort kind (places p sort kind (depth p)) (StandsAt p (depth p)) (places-is p M sort kind (depth p)) no_fm con tys (applied f (Var 0)) in
+    let r = con-is p M sort kind (places p sort kind most_parts) (StandsAt p most_parts) (places-is p M sort kind most_parts) no_fm con tys (applied f (Var 0)) in
     ((λ h v iv n y s. r.0 h v iv tt n y s), λ k. r.1 (λ v iv gv n y s. k v iv n y s))
 
 pub places_are_told-exact : (p : Prog) (M : Meaning) → AllTrue M (places_are_told p) ↔ PlacesAreTold p M
 places_are_told-exact p M =
-    let o = from-none M (λ o (decl : OpDecl). of_con (places p call_sort 0 (depth p)) no_fm (op_con p o) decl.args (applied op_fn (Var 0))) _ (λ o (decl : OpDecl). root-is p M call_sort 0 (op_con p o) op_fn decl.args) p.ops in
-    let i = from-none M (λ k (q : Proc). of_con (places p inv_sort 1 (depth p)) no_fm (info_con p k) q.params (applied info_fn (Var 0))) _ (λ k (q : Proc). root-is p M inv_sort 1 (info_con p k) info_fn q.params) p.procs in
-    let r = from-none M (λ k (q : Proc). of_con (places p inv_sort 2 (depth p)) no_fm (outcome_con p k) (result_list q.result) (applied old_result_fn (Var 0))) _ (λ k (q : Proc). root-is p M inv_sort 2 (outcome_con p k) old_result_fn (result_list q.result)) p.procs in
-    let b = all-both (each_of (λ o (decl : OpDecl). of_con (places p call_sort 0 (depth p)) no_fm (op_con p o) decl.args (applied op_fn (Var 0))) 0 p.ops)
-    (each_of (λ k (q : Proc). of_con (places p inv_sort 1 (depth p)) no_fm (info_con p k) q.params (applied info_fn (Var 0))) 0 p.procs
-    ++ each_of (λ k (q : Proc). of_con (places p inv_sort 2 (depth p)) no_fm (outcome_con p k) (result_list q.result) (applied old_result_fn (Var 0))) 0 p.procs) M in
-    let c = all-both (each_of (λ k (q : Proc). of_con (places p inv_sort 1 (depth p)) no_fm (info_con p k) q.params (applied info_fn (Var 0))) 0 p.procs)
-    (each_of (λ k (q : Proc). of_con (places p inv_sort 2 (depth p)) no_fm (outcome_con p k) (result_list q.result) (applied old_result_fn (Var 0))) 0 p.procs) M in (
+    let o = from-none M (λ o (decl : OpDecl). of_con (places p call_sort 0 most_parts) no_fm (op_con p o) decl.args (applied op_fn (Var 0))) _ (λ o (decl : OpDecl). root-is p M call_sort 0 (op_con p o) op_fn decl.args) p.ops in
+    let i = from-none M (λ k (q : Proc). of_con (places p inv_sort 1 most_parts) no_fm (info_con p k) q.params (applied info_fn (Var 0))) _ (λ k (q : Proc). root-is p M inv_sort 1 (info_con p k) info_fn q.params) p.procs in
+    let r = from-none M (λ k (q : Proc). of_con (places p inv_sort 2 most_parts) no_fm (outcome_con p k) (result_list q.result) (applied old_result_fn (Var 0))) _ (λ k (q : Proc). root-is p M inv_sort 2 (outcome_con p k) old_result_fn (result_list q.result)) p.procs in
+    let b = all-both (each_of (λ o (decl : OpDecl). of_con (places p call_sort 0 most_parts) no_fm (op_con p o) decl.args (applied op_fn (Var 0))) 0 p.ops)
+    (each_of (λ k (q : Proc). of_con (places p inv_sort 1 most_parts) no_fm (info_con p k) q.params (applied info_fn (Var 0))) 0 p.procs
+    ++ each_of (λ k (q : Proc). of_con (places p inv_sort 2 most_parts) no_fm (outcome_con p k) (result_list q.result) (applied old_result_fn (Var 0))) 0 p.procs) M in
+    let c = all-both (each_of (λ k (q : Proc). of_con (places p inv_sort 1 most_parts) no_fm (info_con p k) q.params (applied info_fn (Var 0))) 0 p.procs)
+    (each_of (λ k (q : Proc). of_con (places p inv_sort 2 most_parts) no_fm (outcome_con p k) (result_list q.result) (applied old_result_fn (Var 0))) 0 p.procs) M in (
       (λ h. record { ops = o.0 (b.0 h).0; infos = i.0 (c.0 (b.0 h).1).0; results = r.0 (c.0 (b.0 h).1).1 }),
       λ a. b.1 (o.1 a.ops, c.1 (i.1 a.infos, r.1 a.results)),
     )

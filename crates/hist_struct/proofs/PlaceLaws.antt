@@ -32,7 +32,8 @@ use Rattle.hist_struct.specs.Steps.{Step, IsStep}
 use Rattle.hist_struct.proofs.StepPrograms.{IsProgram}
 use Rattle.hist_struct.specs.Structure.{IsSig, meaning_of, op_elem, info_elem, outcome_elem, result_elem, grid_relation, holds_id, args_of, params_of, returns_id}
 use Rattle.rp_symbols.specs.Numbers.{id_rel}
-use Rattle.hist_struct.specs.Conditions.{Rel, Fields, StandsIn, StandsAt, count, depth, PlacesAreTold}
+use Rattle.hist_struct.specs.Defaults.{most_parts}
+use Rattle.hist_struct.specs.Conditions.{Rel, Fields, StandsIn, StandsAt, count, PlacesAreTold}
 use Rattle.rp_symbols.specs.Signatures.{result_list}
 use Rattle.hist_struct.proofs.MarkFacts.{and-nil}
 use Rattle.hist_struct.proofs.MoveFacts.{Kept, kept}
@@ -120,13 +121,13 @@ at-holds p (suc fuel) t v n y h s = in-holds p (StandsAt p fuel) (at-holds p fue
 
 -- in the arguments of an operation or of an invocation
 in-args : (p : Prog) (con con' : ℕ) (tys : List Ty) (vs : List Val) (e : Elem) (n : ℕ) (y : Elem) → e ≡ Made con (elems_of vs) → (con ≡ con' → all_fit p tys vs ≡ true)
-    → Fields (StandsAt p (depth p)) con' tys e n y → Found p (all_atoms vs) n y
+    → Fields (StandsAt p most_parts) con' tys e n y → Found p (all_atoms vs) n y
 in-args p con con' tys vs e n y is fit f =
     let made : Made con (elems_of vs) ≡ Made con' f.0 = sym is ∙ f.1 in
     let c : con ≡ con' = cc in
     let es : elems_of vs ≡ f.0 = cc in
-    of-field p (StandsAt p (depth p)) (at-holds p (depth p)) f.4 (nth_elem (elems_of vs) f.3) (all_atoms vs) (arg-at p tys vs f.3 f.4 (fit c) f.5) n y
-    (subst (λ z. StandsAt p (depth p) f.4 (nth_elem z f.3) n y) (sym es) f.6)
+    of-field p (StandsAt p most_parts) (at-holds p most_parts) f.4 (nth_elem (elems_of vs) f.3) (all_atoms vs) (arg-at p tys vs f.3 f.4 (fit c) f.5) n y
+    (subst (λ z. StandsAt p most_parts f.4 (nth_elem z f.3) n y) (sym es) f.6)
 
 one-fits : (p : Prog) (o : Option Ty) (v : Val) → result_fits p o (Some v) ≡ true → all_fit p (result_list o) (v ∷ []) ≡ true
 one-fits p None v h = no h
@@ -160,7 +161,7 @@ module _ (S : Signature) (g : IsSig S) (x : Step) (keeps : IsProgram x.program) 
         (ltb-true f.0 x.new.universe (m.after.formed.known.in_args i (Atom n f.0) a.0 a.1 f.2).below) f.1 (ap (λ o. holds_id n f.0 (params_of o)) a.1 ∙ f.2));
     results = λ k q ak. each-inv S x g _ (λ i li n y s.
         let e = in-table (λ i. result_elem x.program (slice_get x.old.invocations i)) (length x.new.invocations) i li in
-        in-result i k q ak n y li (slice_get x.old.invocations i) refl (subst (λ z. Fields (StandsAt x.program (depth x.program)) (outcome_con x.program k) (result_list q.result) z n y) e s));
+        in-result i k q ak n y li (slice_get x.old.invocations i) refl (subst (λ z. Fields (StandsAt x.program most_parts) (outcome_con x.program k) (result_list q.result) z n y) e s));
   }
     where
       op-fits : (c : ℕ) (call : Call) (o : ℕ) (decl : OpDecl) → At x.new.calls c call → At x.program.ops o decl → call.op ≡ o → all_fit x.program decl.args call.args ≡ true
@@ -173,11 +174,11 @@ module _ (S : Signature) (g : IsSig S) (x : Step) (keeps : IsProgram x.program) 
           let t = m.after.formed.invocations i inv a in
           subst (λ (d : Proc). all_fit x.program d.params inv.args ≡ true) (at-one x.program.procs k t.proc q (subst (λ z. At x.program.procs z t.proc) e t.is) ak) t.args
 
-      no-outcome : (k : ℕ) (A : Type 0) (tys : List Ty) (n : ℕ) (y : Elem) → Fields (StandsAt x.program (depth x.program)) (outcome_con x.program k) tys (Made (unreturned_con x.program) no_elem) n y → A
+      no-outcome : (k : ℕ) (A : Type 0) (tys : List Ty) (n : ℕ) (y : Elem) → Fields (StandsAt x.program most_parts) (outcome_con x.program k) tys (Made (unreturned_con x.program) no_elem) n y → A
       no-outcome k A tys n y s = let made = s.1 in let c : unreturned_con x.program ≡ outcome_con x.program k = cc in absurd (omega (arith, c))
 
       in-result : (i k : ℕ) (q : Proc) → At x.program.procs k q → (n : ℕ) (y : Elem) → i < length x.new.invocations → (o : Option Invocation) → slice_get x.old.invocations i ≡ o
-          → Fields (StandsAt x.program (depth x.program)) (outcome_con x.program k) (result_list q.result) (result_elem x.program o) n y
+          → Fields (StandsAt x.program most_parts) (outcome_con x.program k) (result_list q.result) (result_elem x.program o) n y
           → Rel (meaning_of S x) (id_rel x.program n 2) (Point i) y
       in-result i k q ak n y li None is s = no-outcome k _ (result_list q.result) n y s
       in-result i k q ak n y li (Some inv) is s = go inv.standing refl s
@@ -188,7 +189,7 @@ module _ (S : Signature) (g : IsSig S) (x : Step) (keeps : IsProgram x.program) 
               let r = subst (λ (d : Proc). result_fits x.program d.result (Some v) ≡ true) (at-one x.program.procs k t.proc q (subst (λ z. At x.program.procs z t.proc) e t.is) ak) (t.result (Some v) st) in
               one-fits x.program q.result v r
 
-          go : (st : Standing) → inv.standing ≡ st → Fields (StandsAt x.program (depth x.program)) (outcome_con x.program k) (result_list q.result) (outcome_elem x.program inv.proc (result_of st)) n y
+          go : (st : Standing) → inv.standing ≡ st → Fields (StandsAt x.program most_parts) (outcome_con x.program k) (result_list q.result) (outcome_elem x.program inv.proc (result_of st)) n y
               → Rel (meaning_of S x) (id_rel x.program n 2) (Point i) y
           go Running e s = no-outcome k _ (result_list q.result) n y s
           go Failed e s = no-outcome k _ (result_list q.result) n y s

@@ -1,11 +1,11 @@
 -- Along the path of a register's query: the way to the register, its keys, and what is asked there.
-use Rattle.std.proofs.Common.{◌≡◌, ℕ, List, [], ◌∷◌, Bool, true, Option, Some, None, refl, sym, ap, ◌∙◌, subst}
-use Rattle.std.proofs.lemmas.Bool.{and_parts, and_from}
+use Rattle.std.proofs.Common.{◌≡◌, ℕ, List, [], ◌∷◌, Bool, true, Option, Some, None, refl, sym, ap, ◌∙◌, subst, true≢false}
+use Rattle.std.proofs.lemmas.Bool.{and_parts}
 use Rattle.std.proofs.lemmas.Option.{same_Some}
 use Rattle.rp_value.specs.declared.tables.Ty.{Ty}
 use Rattle.rp_lang.specs.Crdts.{Cr, SetAw, SetRw, Reg, MvReg, Counter, MapUw, MapDw, Struct}
 use Rattle.rp_lang.specs.Paths.{is_crdt, held_at, field_in, reached, own_args, query_stands}
-use Rattle.rp_lang.specs.Types.{same_ty, is_ordinary, are_ordinary}
+use Rattle.rp_lang.specs.Types.{same_ty, is_ordinary, is_maybe_of}
 use Rattle.rp_lang.specs.declared.op.PathStep.{PathStep}
 use Rattle.rp_lang.specs.declared.op.PathStep.TheVariants.{Field, Key}
 use Rattle.rp_lang.specs.declared.query.QueryKind.TheVariants.{GetReg}
@@ -18,18 +18,16 @@ use Rattle.crdt_defs.specs.Fitting.{fits, all_fit}
 use Rattle.crdt_defs.specs.Meaning.{latest}
 use Rattle.crdt_defs.specs.Queries.{question, at_call, answer_at, ask}
 use Rattle.event_machine.proofs.AnswerFits.{register-is}
-use Rattle.rp_logic.specs.Elements.{Elem}
-use Rattle.rp_logic.specs.Truth.{Meaning}
 use Rattle.rp_logic.proofs.SortLaws.{no}
 use Rattle.crdt_enc.specs.Ways.{Way, AtField, AtKey, depth}
-use Rattle.crdt_enc.specs.means.Counting.{Both, terms, counted, KeysRead, WayFits}
-use Rattle.crdt_enc.proofs.AskLaws.{terms_of, vals_of, AllRead}
+use Rattle.crdt_enc.specs.means.Counting.{Both, terms, counted, EachKey, EachBoth, WayFits}
+use Rattle.crdt_enc.proofs.AskLaws.{terms_of, vals_of}
 use Rattle.crdt_enc.proofs.ProgramLaws.{WayAlong, IsMap, key-fits, along-field, along-key, asked-key}
 use Rattle.crdt_enc.proofs.StageFacts.{in-field, none-taken}
 use Rattle.hist_struct.specs.Registers.{register_here, register_at}
 
 -- the register at the end of the path, and the way there
-pub record RegEnd (p : Prog) (h : List Call) (visible : ℕ → Bool) (crdt : Option Cr) (path : List PathStep) (w : Way Both) (args : List Both) : Type 0 where
+pub record RegEnd (p : Prog) (h : List Call) (visible : ℕ → Bool) (crdt : Option Cr) (path : List PathStep) (w : Way Both) (args : List Both) (result : Ty) : Type 1 where
   pub ty : Ty
   pub way : Way Both
   pub ordinary : is_ordinary p.types ty ≡ true
@@ -37,7 +35,9 @@ pub record RegEnd (p : Prog) (h : List Call) (visible : ℕ → Bool) (crdt : Op
   pub asks : ask p.ops h GetReg crdt path (depth (terms w)) (counted p.ops h visible w) (vals_of args) ≡ Value (at_call (latest p.ops h (counted p.ops h visible way)))
   pub fit : WayFits p way
   pub along : WayAlong p way (Reg ty)
-  pub read : (M : Meaning) (base : List Elem) → KeysRead M base w → AllRead M base args → KeysRead M base way
+  -- its keys are those of the way to here and of the arguments
+  pub keep : (P : Both → Type 0) → EachKey P w → EachBoth P args → EachKey P way
+  pub maybe : is_maybe_of p.types p.cons ty result ≡ true
 
 no-args : (p : Prog) (args : List Both) → all_fit p [] (vals_of args) ≡ true → args ≡ []
 no-args p [] f = refl
@@ -45,8 +45,8 @@ no-args p (a ∷ args) f = no f
 
 pub reg-end : (p : Prog) (h : List Call) (visible : ℕ → Bool) (crdt : Option Cr) (path : List PathStep) (w : Way Both) (args : List Both) (tys : List Ty) (result : Ty) → WayFits p w
     → ((c : Cr) → crdt ≡ Some c → WayAlong p w c) → ((c : Cr) → crdt ≡ Some c → is_crdt p.types c ≡ true)
-    → query_stands p.types p.cons GetReg (reached crdt path) (own_args path tys) result ≡ true → all_fit p tys (vals_of args) ≡ true → RegEnd p h visible crdt path w args
-reg-end p h visible None path w args tys result way along fine s f = no s
+    → query_stands p.types p.cons GetReg (reached crdt path) (own_args path tys) result ≡ true → all_fit p tys (vals_of args) ≡ true → RegEnd p h visible crdt path w args result
+reg-end p h visible None path w args tys result way along fine s f = absurd (true≢false (sym s))
 reg-end p h visible (Some crdt) [] w args tys result way along fine s f =
     let both = and_parts _ _ s in
     let c = register-is p crdt result both.1 in
@@ -60,15 +60,16 @@ reg-end p h visible (Some crdt) [] w args tys result way along fine s f =
           ∙ ap (λ a. answer_at p.ops h (depth (terms w)) (counted p.ops h visible w) (question (Reg c.0) GetReg) (vals_of a)) none;
       fit = way;
       along = subst (λ c. WayAlong p w c) c.1 (along crdt refl);
-      read = λ M base k r. k;
+      keep = λ P k r. k;
+      maybe = c.2;
     }
 reg-end p h visible (Some crdt) (Field n ∷ path) w args tys result way along fine s f =
     let e = reg-end p h visible (field_in crdt n) path (AtField n w) args tys result way (λ c e. along-field p w crdt c n (along crdt refl) e)
     (λ c q. in-field p.types crdt n c (fine crdt refl) q) s f in
-    record { ty = e.ty; way = e.way; ordinary = e.ordinary; is = e.is; asks = e.asks; fit = e.fit; along = e.along; read = λ M base k r. e.read M base k r }
-reg-end p h visible (Some crdt) (Key ty ∷ path) w [] [] result way along fine s f = no (sym (none-taken p.types p.cons GetReg (reached (held_at ty crdt) path) result) ∙ s)
-reg-end p h visible (Some crdt) (Key ty ∷ path) w [] (t ∷ tys) result way along fine s f = no f
-reg-end p h visible (Some crdt) (Key ty ∷ path) w (k ∷ args) [] result way along fine s f = no f
+    record { ty = e.ty; way = e.way; ordinary = e.ordinary; is = e.is; asks = e.asks; fit = e.fit; along = e.along; keep = λ P k r. e.keep P k r; maybe = e.maybe }
+reg-end p h visible (Some crdt) (Key ty ∷ path) w [] [] result way along fine s f = absurd (true≢false (sym (sym (none-taken p.types p.cons GetReg (reached (held_at ty crdt) path) result) ∙ s)))
+reg-end p h visible (Some crdt) (Key ty ∷ path) w [] (t ∷ tys) result way along fine s f = absurd (true≢false (sym f))
+reg-end p h visible (Some crdt) (Key ty ∷ path) w (k ∷ args) [] result way along fine s f = absurd (true≢false (sym f))
 reg-end p h visible (Some (MapUw ks c)) (Key ty ∷ path) w (k ∷ args) (arg ∷ tys) result way along fine s f =
     let m : IsMap (MapUw ks c) ks c = record { held = refl; keys = refl; at = λ t. refl } in
     let q = asked-key p GetReg ks ty arg c path tys result (same_ty ks ty) (same_ty arg ty) refl refl s in
@@ -78,7 +79,7 @@ reg-end p h visible (Some (MapUw ks c)) (Key ty ∷ path) w (k ∷ args) (arg �
     let e = reg-end p h visible (Some c) path (AtKey Update k w) args tys result way2
     (λ d e. subst (λ d. WayAlong p (AtKey Update k w) d) (same_Some c d e) (along-key p w (MapUw ks c) c ks k (along (MapUw ks c) refl) m))
     (λ d e. ap (is_crdt p.types) (sym (same_Some c d e)) ∙ o.1) q.1 b.1 in
-    record { ty = e.ty; way = e.way; ordinary = e.ordinary; is = e.is; asks = e.asks; fit = e.fit; along = e.along; read = λ M base k r. e.read M base (k, r.0) r.1 }
+    record { ty = e.ty; way = e.way; ordinary = e.ordinary; is = e.is; asks = e.asks; fit = e.fit; along = e.along; keep = λ P k r. e.keep P (k, r.0) r.1; maybe = e.maybe }
 reg-end p h visible (Some (MapDw ks c)) (Key ty ∷ path) w (k ∷ args) (arg ∷ tys) result way along fine s f =
     let m : IsMap (MapDw ks c) ks c = record { held = refl; keys = refl; at = λ t. refl } in
     let q = asked-key p GetReg ks ty arg c path tys result (same_ty ks ty) (same_ty arg ty) refl refl s in
@@ -88,32 +89,10 @@ reg-end p h visible (Some (MapDw ks c)) (Key ty ∷ path) w (k ∷ args) (arg �
     let e = reg-end p h visible (Some c) path (AtKey Delete k w) args tys result way2
     (λ d e. subst (λ d. WayAlong p (AtKey Delete k w) d) (same_Some c d e) (along-key p w (MapDw ks c) c ks k (along (MapDw ks c) refl) m))
     (λ d e. ap (is_crdt p.types) (sym (same_Some c d e)) ∙ o.1) q.1 b.1 in
-    record { ty = e.ty; way = e.way; ordinary = e.ordinary; is = e.is; asks = e.asks; fit = e.fit; along = e.along; read = λ M base k r. e.read M base (k, r.0) r.1 }
-reg-end p h visible (Some (SetAw t)) (Key ty ∷ path) w (k ∷ args) (arg ∷ tys) result way along fine s f = no s
-reg-end p h visible (Some (SetRw t)) (Key ty ∷ path) w (k ∷ args) (arg ∷ tys) result way along fine s f = no s
-reg-end p h visible (Some (Reg t)) (Key ty ∷ path) w (k ∷ args) (arg ∷ tys) result way along fine s f = no s
-reg-end p h visible (Some (MvReg t)) (Key ty ∷ path) w (k ∷ args) (arg ∷ tys) result way along fine s f = no s
-reg-end p h visible (Some Counter) (Key ty ∷ path) w (k ∷ args) (arg ∷ tys) result way along fine s f = no s
-reg-end p h visible (Some (Struct fs)) (Key ty ∷ path) w (k ∷ args) (arg ∷ tys) result way along fine s f = no s
-
--- the types of its keys are types of data, with their numbers in range
-pub keys-ordinary : (p : Prog) (crdt : Option Cr) (path : List PathStep) (tys : List Ty) (result : Ty) → ((c : Cr) → crdt ≡ Some c → is_crdt p.types c ≡ true)
-    → query_stands p.types p.cons GetReg (reached crdt path) (own_args path tys) result ≡ true → are_ordinary p.types tys ≡ true
-keys-ordinary p None path tys result fine s = no s
-keys-ordinary p (Some crdt) [] tys result fine s = ap (are_ordinary p.types) (nothing tys (and_parts _ _ s).0)
-keys-ordinary p (Some crdt) (Field n ∷ path) tys result fine s = keys-ordinary p (field_in crdt n) path tys result (λ c q. in-field p.types crdt n c (fine crdt refl) q) s
-keys-ordinary p (Some crdt) (Key ty ∷ path) [] result fine s = refl
-keys-ordinary p (Some (MapUw ks c)) (Key ty ∷ path) (arg ∷ tys) result fine s =
-    let q = asked-key p GetReg ks ty arg c path tys result (same_ty ks ty) (same_ty arg ty) refl refl s in
-    let o = and_parts (is_ordinary p.types ks) _ (fine (MapUw ks c) refl) in
-    and_from (is_ordinary p.types arg) _ (ap (is_ordinary p.types) q.0 ∙ o.0) (keys-ordinary p (Some c) path tys result (λ d e. ap (is_crdt p.types) (sym (same_Some c d e)) ∙ o.1) q.1)
-keys-ordinary p (Some (MapDw ks c)) (Key ty ∷ path) (arg ∷ tys) result fine s =
-    let q = asked-key p GetReg ks ty arg c path tys result (same_ty ks ty) (same_ty arg ty) refl refl s in
-    let o = and_parts (is_ordinary p.types ks) _ (fine (MapDw ks c) refl) in
-    and_from (is_ordinary p.types arg) _ (ap (is_ordinary p.types) q.0 ∙ o.0) (keys-ordinary p (Some c) path tys result (λ d e. ap (is_crdt p.types) (sym (same_Some c d e)) ∙ o.1) q.1)
-keys-ordinary p (Some (SetAw t)) (Key ty ∷ path) (arg ∷ tys) result fine s = no s
-keys-ordinary p (Some (SetRw t)) (Key ty ∷ path) (arg ∷ tys) result fine s = no s
-keys-ordinary p (Some (Reg t)) (Key ty ∷ path) (arg ∷ tys) result fine s = no s
-keys-ordinary p (Some (MvReg t)) (Key ty ∷ path) (arg ∷ tys) result fine s = no s
-keys-ordinary p (Some Counter) (Key ty ∷ path) (arg ∷ tys) result fine s = no s
-keys-ordinary p (Some (Struct fs)) (Key ty ∷ path) (arg ∷ tys) result fine s = no s
+    record { ty = e.ty; way = e.way; ordinary = e.ordinary; is = e.is; asks = e.asks; fit = e.fit; along = e.along; keep = λ P k r. e.keep P (k, r.0) r.1; maybe = e.maybe }
+reg-end p h visible (Some (SetAw t)) (Key ty ∷ path) w (k ∷ args) (arg ∷ tys) result way along fine s f = absurd (true≢false (sym s))
+reg-end p h visible (Some (SetRw t)) (Key ty ∷ path) w (k ∷ args) (arg ∷ tys) result way along fine s f = absurd (true≢false (sym s))
+reg-end p h visible (Some (Reg t)) (Key ty ∷ path) w (k ∷ args) (arg ∷ tys) result way along fine s f = absurd (true≢false (sym s))
+reg-end p h visible (Some (MvReg t)) (Key ty ∷ path) w (k ∷ args) (arg ∷ tys) result way along fine s f = absurd (true≢false (sym s))
+reg-end p h visible (Some Counter) (Key ty ∷ path) w (k ∷ args) (arg ∷ tys) result way along fine s f = absurd (true≢false (sym s))
+reg-end p h visible (Some (Struct fs)) (Key ty ∷ path) w (k ∷ args) (arg ∷ tys) result way along fine s f = absurd (true≢false (sym s))

@@ -42,7 +42,7 @@ use Rattle.rp_symbols.specs.Signatures.{sort_of}
 use Rattle.crdt_enc.specs.Elements.{elem_of, elems_of}
 use Rattle.crdt_enc.specs.FitsParts.{FitsCalls, FitsView, Is, holds_of_two, applied_to}
 use Rattle.crdt_enc.specs.Ways.{Way, Root, AtField, AtKey, depth, goes}
-use Rattle.crdt_enc.specs.means.Counting.{Both, terms, counted, matches, KeysRead, CallsFit}
+use Rattle.crdt_enc.specs.means.Counting.{Both, terms, counted, matches, KeysRead, CallsFit, Read}
 use Rattle.crdt_enc.proofs.AskFacts.{ops-stand}
 use Rattle.crdt_enc.proofs.AskLaws.{terms_of, vals_of, AllRead}
 use Rattle.crdt_enc.proofs.CallLaws.{map-count}
@@ -57,7 +57,8 @@ use Rattle.hist_struct.specs.Registers.{mapped, Register, register_of, is_regist
 use Rattle.hist_struct.specs.Steps.{is_lesser}
 use Rattle.hist_struct.proofs.LatestFacts.{none-of, last-of}
 use Rattle.hist_struct.proofs.RegisterCounts.{none-counts, latest-counts}
-use Rattle.hist_struct.proofs.RegisterEnds.{RegEnd, reg-end, keys-ordinary}
+use Rattle.hist_struct.proofs.OrdinaryLaws.{query-ordinary}
+use Rattle.hist_struct.proofs.RegisterEnds.{RegEnd, reg-end}
 use Rattle.hist_struct.proofs.RegisterExact.{Agree, moved, at-reads}
 
 -- # Values as variables
@@ -159,13 +160,13 @@ module _ (p : Prog) (formed : is_well_formed p ≡ true) (M : Meaning) (h : List
         ∙ (and_parts _ _ (each (is_query p.types p.cons p.roots) p.queries n query (facts p formed).queries at)).1
 
     module _ (vs : List Val) (vf : all_fit p query.args vs ≡ true) where
-      end : RegEnd p h visible (root_crdt (slice_get p.roots query.root)) query.path (Root query.root) (bothed 0 vs)
+      end : RegEnd p h visible (root_crdt (slice_get p.roots query.root)) query.path (Root query.root) (bothed 0 vs) query.result
       end = reg-end p h visible (root_crdt (slice_get p.roots query.root)) query.path (Root query.root) (bothed 0 vs) query.args query.result tt
           (root-along p (ops-stand p (λ o decl e. op-is p.roots p.ops o decl (facts p formed).ops e)) query.root) fine stands
           (ap (all_fit p query.args) (vals-same 0 vs) ∙ vf)
 
       read : (extra : List Elem) → KeysRead M (map elem_of vs ++ extra) end.way
-      read extra = end.read M (map elem_of vs ++ extra) tt (all-read M [] vs extra 0 refl)
+      read extra = end.keep (Read M (map elem_of vs ++ extra)) tt (all-read M [] vs extra 0 refl)
 
       register-is : register_of p query (map elem_of vs) ≡ Some (record { ty = end.ty; way = by_values end.way })
       register-is =
@@ -271,4 +272,4 @@ module _ (p : Prog) (formed : is_well_formed p ≡ true) (M : Meaning) (h : List
   pub registers-met : RegistersTell p M view
   registers-met n query at is =
       each-values query.args [] (λ given. Told (RegisterTells p M view n query.result given) (register_of p query given))
-      (keys-ordinary p (root_crdt (slice_get p.roots query.root)) query.path query.args query.result (fine n query at is) (stands n query at is)) (λ vs f. told n query at is vs f)
+      (query-ordinary p (facts p formed) n query at) (λ vs f. told n query at is vs f)

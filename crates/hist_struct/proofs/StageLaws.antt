@@ -22,7 +22,7 @@ use Rattle.event_machine.proofs.AnswerFits.{asked-fits}
 use Rattle.rp_logic.specs.Structures.{apply}
 use Rattle.rp_logic.specs.Truth.{Meaning}
 use Rattle.rp_logic.proofs.SortLaws.{no}
-use Rattle.rp_symbols.specs.Numbers.{val_fn, old_rel, part_rel, seen_rel, read_rel, snapshot_rel}
+use Rattle.rp_symbols.specs.Numbers.{val_fn, old_rel, part_rel, seen_rel, read_rel, added_rel, snapshot_rel}
 use Rattle.crdt_enc.specs.Elements.{elems_of}
 use Rattle.crdt_enc.specs.Places as places
 use Rattle.crdt_enc.specs.FitsParts.{FitsParts, FitsView}
@@ -30,12 +30,12 @@ use Rattle.crdt_enc.specs.Stages.{ResultFits, InfoFits, Stage}
 use Rattle.crdt_enc.proofs.Starts.{fit-count}
 use Rattle.hist_struct.specs.QueryValues.{answered, val_table}
 use Rattle.hist_struct.specs.Snapshots.{before_at, after_at, reading, AreStages}
-use Rattle.hist_struct.specs.Steps.{Step, IsStep, is_done, is_part, is_seen, is_read}
+use Rattle.hist_struct.specs.Steps.{Step, begins, IsStep, is_done, is_part, is_seen, is_read}
 use Rattle.hist_struct.specs.Structure.{sig_at, meaning_of}
 use Rattle.hist_struct.proofs.FitLaws.{map-at, map-length}
 use Rattle.hist_struct.proofs.PartLaws.{before-fits, after-fits}
 use Rattle.hist_struct.proofs.ValueFacts.{table-is}
-use Rattle.hist_struct.proofs.ValueNumbers.{old-found, snapshot-found, part-found, seen-found, read-found}
+use Rattle.hist_struct.proofs.ValueNumbers.{old-found, snapshot-found, part-found, seen-found, read-found, added-found}
 use Rattle.hist_struct.proofs.ViewLaws.{views-fit}
 
 -- # What a valid state says of its parts
@@ -79,7 +79,7 @@ seen-alone calls visible =
     let each : (c : ℕ) → reading_set calls (seer visible) c ≡ visible c = λ c. or-false (visible c) in
     λ i c. each c i
 
-answers-fit : (p : Prog) → Facts p → (s : State) → IsValid p s → (visible : ℕ → Bool) (n : ℕ) (query : QueryDecl) (args : List Val) → At p.queries n query → is_get query.kind ≡ true
+pub answers-fit : (p : Prog) → Facts p → (s : State) → IsValid p s → (visible : ℕ → Bool) (n : ℕ) (query : QueryDecl) (args : List Val) → At p.queries n query → is_get query.kind ≡ true
     → all_fit p query.args args ≡ true → fits p query.result (answered p s.calls visible n args) ≡ true
 answers-fit p f s w visible n query args at get fit =
     let e : value_asked (slice_get p.queries n) ≡ Some query.result = ap value_asked at ∙ ap (λ b. if b then Some query.result else None) get in
@@ -106,11 +106,11 @@ stage-at p formed s w M at visible slots parts view found = record {
   answers = λ n query args is get fit. answers-fit p (facts p formed) s w visible n query args is get fit;
 }
 
-pub stages : (x : Step) (consts : List ℕ) (reads : ℕ) → is_well_formed x.program ≡ true → IsStep x → (slots : List (Option Val)) → AreStages x (meaning_of (sig_at x consts reads) x) slots
-stages x consts reads formed m slots =
-    let M = meaning_of (sig_at x consts reads) x in
-    let views = views-fit x consts reads formed m in
-    let before = before-fits x consts reads formed m in
+pub stages : (x : Step) (consts : List ℕ) → is_well_formed x.program ≡ true → IsStep x → (slots : List (Option Val)) → AreStages x (meaning_of (sig_at x consts) x) slots
+stages x consts formed m slots =
+    let M = meaning_of (sig_at x consts) x in
+    let views = views-fit x consts formed m in
+    let before = before-fits x consts formed m in
     record {
       old = stage-at x.program formed x.old m.before M (before_at old_rel) (is_done x.old) slots (before old_rel) views.old (old-found x);
       part = stage-at x.program formed x.old m.before M (before_at part_rel) (is_part x) slots (before part_rel) views.part (part-found x);
@@ -118,5 +118,7 @@ stages x consts reads formed m slots =
           (λ n query is get. seen-found x n query is get k l);
       read = λ k l. stage-at x.program formed x.old m.before M (before_at (read_rel x.program k)) (is_read x.old x.inv k) slots (before (read_rel x.program k)) (views.read k l)
           (λ n query is get. read-found x n query is get k l);
-      snapshot = stage-at x.program formed x.new m.after M (after_at snapshot_rel) x.snapshot slots (after-fits x consts reads formed m snapshot_rel) views.snapshot (snapshot-found x);
+      added = λ j set e. stage-at x.program formed x.old m.before M (before_at (added_rel x.program (begins x) j)) set slots (before (added_rel x.program (begins x) j)) (views.added j set e)
+          (λ n query is get. added-found x n query is get j set e);
+      snapshot = stage-at x.program formed x.new m.after M (after_at snapshot_rel) x.snapshot slots (after-fits x consts formed m snapshot_rel) views.snapshot (snapshot-found x);
     }

@@ -30,8 +30,8 @@ nothing-is p universe l =
     }
 
 pub label-is : (p : Prog) → is_well_formed p ≡ true → (s : State) (label : Label) (new : State) (i : ℕ) → IsValid p s → Leads s (step p s label) new → Acts s label i
-    → (v : ℕ → Bool) → IsSnapshot new.calls (commits_of new.txs) v → (views : ℕ) (vals : List Elem) → IsStep (step_of p s new i v views vals)
-label-is p w s label new i h l acts v snap views vals = record {
+    → (v : ℕ → Bool) → IsSnapshot new.calls (commits_of new.txs) v → (views : ℕ) (vals : List Elem) (reads : List (ℕ → Bool)) → IsStep (step_of p s new i v views vals reads)
+label-is p w s label new i h l acts v snap views vals reads = record {
   before = h;
   after = record { formed = step-formed p (procs-fit p w) s label new h.formed l; typed = step-typed p w s label new h.typed l };
   moves = inr (label, l);

@@ -2,6 +2,7 @@
 use Rattle.std.proofs.Common.{◌≡◌, ℕ, zero, suc, ◌+◌, ◌*◌, ◌<◌, Bool, true, false, if◌then◌else◌, List, [], ◌∷◌, ◌++◌, length, filter, take, refl, ap, sym, ◌∙◌, subst, ltb-true, arith, slice_get}
 use Rattle.std.specs.declared.option.Option.TheVariants.{Some}
 use Rattle.std.proofs.lemmas.List.Sums.{length-filter}
+use Rattle.std.proofs.lemmas.Option.{none-some, same_Some}
 use Rattle.rp_value.specs.declared.tables.AtomType.{AtomType}
 use Rattle.crdt_defs.specs.Fitting.{names_ids}
 use Rattle.rp_logic.specs.Signatures.{Signature, is_int, is_str}
@@ -14,8 +15,9 @@ use Rattle.rp_symbols.specs.Numbers.{ids}
 use Rattle.hist_struct.specs.Tables.{one_point, two_points, set_relation, pair_relation}
 use Rattle.hist_struct.proofs.TableLaws.{found-at, in-pairs}
 use Rattle.hist_struct.specs.Steps.{Step, begins, is_seen, is_read}
-use Rattle.hist_struct.specs.Structure.{IsSig, meaning_of, rels_of, id_rels, view_rels, rels_of_id}
-use Rattle.rp_symbols.specs.Numbers.{seen_rel, read_rel, id_rel}
+use Rattle.hist_struct.specs.Structure.{IsSig, meaning_of, rels_of, id_rels, view_rels, added_rels, rels_of_id}
+use Rattle.rp_symbols.specs.Numbers.{seen_rel, read_rel, added_rel, id_rel}
+use Rattle.rp_symbols.proofs.LookUps.{get-front}
 use Rattle.crdt_enc.specs.FitsParts.{Is}
 use Rattle.hist_struct.specs.Conditions.{EachCall, EachInv}
 
@@ -79,17 +81,31 @@ view-at x k (suc n) (suc j) l =
       ap (λ i. slice_get (view_rels x k (suc n)) (suc i)) a ∙ (r.1 ∙ ap (λ m. Some (set_relation (is_read x.old x.inv m) (length x.new.calls))) e),
     )
 
-behind-fixed : (x : Step) (n m : ℕ) → m ≡ 3 * ids x.program.types.atoms + n → slice_get (rels_of x) (9 + m) ≡ slice_get (view_rels x 0 (begins x)) n
+behind-fixed : (x : Step) (n m : ℕ) → m ≡ 3 * ids x.program.types.atoms + n → slice_get (rels_of x) (9 + m) ≡ slice_get (view_rels x 0 (begins x) ++ added_rels x x.reads) n
 behind-fixed x n m e =
     let a : 9 + m ≡ suc (suc (suc (suc (suc (suc (suc (suc (suc m)))))))) = omega arith in
     let c = count-of x 0 x.program.types.atoms ∙ ap (λ n. 3 * n) (length-filter (λ (atom : AtomType). atom.is_id) x.program.types.atoms) in
-    ap (slice_get (rels_of x)) a ∙ get-behind (id_rels x 0 x.program.types.atoms) (view_rels x 0 (begins x)) m n (omega (arith, c, e))
+    ap (slice_get (rels_of x)) a ∙ get-behind (id_rels x 0 x.program.types.atoms) (view_rels x 0 (begins x) ++ added_rels x x.reads) m n (omega (arith, c, e))
 
 pub seen-at : (x : Step) (k : ℕ) → k < begins x → slice_get (rels_of x) (seen_rel x.program k) ≡ Some (set_relation (is_seen x.old x.inv k) (length x.new.calls))
-seen-at x k l = behind-fixed x (k + k) _ refl ∙ ((view-at x 0 (begins x) k l).0 ∙ ap (λ m. Some (set_relation (is_seen x.old x.inv m) (length x.new.calls))) (let e : 0 + k ≡ k = omega arith in e))
+seen-at x k l = behind-fixed x (k + k) _ refl ∙ (get-front (view_rels x 0 (begins x)) (added_rels x x.reads) (k + k) _ (view-at x 0 (begins x) k l).0 ∙ ap (λ m. Some (set_relation (is_seen x.old x.inv m) (length x.new.calls))) (let e : 0 + k ≡ k = omega arith in e))
 
 pub read-at : (x : Step) (k : ℕ) → k < begins x → slice_get (rels_of x) (read_rel x.program k) ≡ Some (set_relation (is_read x.old x.inv k) (length x.new.calls))
-read-at x k l = behind-fixed x (suc (k + k)) _ refl ∙ ((view-at x 0 (begins x) k l).1 ∙ ap (λ m. Some (set_relation (is_read x.old x.inv m) (length x.new.calls))) (let e : 0 + k ≡ k = omega arith in e))
+read-at x k l = behind-fixed x (suc (k + k)) _ refl ∙ (get-front (view_rels x 0 (begins x)) (added_rels x x.reads) (suc (k + k)) _ (view-at x 0 (begins x) k l).1 ∙ ap (λ m. Some (set_relation (is_read x.old x.inv m) (length x.new.calls))) (let e : 0 + k ≡ k = omega arith in e))
+
+views-count : (x : Step) (k n : ℕ) → length (view_rels x k n) ≡ n + n
+views-count x k zero = refl
+views-count x k (suc n) = let r = views-count x (suc k) n in omega (arith, r)
+
+added-found : (x : Step) (reads : List (ℕ → Bool)) (j : ℕ) (set : ℕ → Bool) → slice_get reads j ≡ Some set → slice_get (added_rels x reads) j ≡ Some (set_relation set (length x.old.calls))
+added-found x [] j set e = absurd (none-some set e)
+added-found x (f ∷ fs) zero set e = ap (λ s. Some (set_relation s (length x.old.calls))) (same_Some f set e)
+added-found x (f ∷ fs) (suc j) set e = added-found x fs j set e
+
+pub added-at : (x : Step) (j : ℕ) (set : ℕ → Bool) → slice_get x.reads j ≡ Some set → slice_get (rels_of x) (added_rel x.program (begins x) j) ≡ Some (set_relation set (length x.old.calls))
+added-at x j set e =
+    behind-fixed x (begins x + begins x + j) _ refl
+    ∙ (get-behind (view_rels x 0 (begins x)) (added_rels x x.reads) (begins x + begins x + j) j (let c = views-count x 0 (begins x) in omega (arith, c)) ∙ added-found x x.reads j set e)
 
 -- # Invocations
 
@@ -138,4 +154,4 @@ id-rel-at x ty kind e l =
     let a : id_rel x.program ty kind ≡ suc (suc (suc (suc (suc (suc (suc (suc (suc (3 * length (filter (λ (atom : AtomType). atom.is_id) (take ty x.program.types.atoms)) + kind)))))))))
     = omega (arith, c) in
     ap (slice_get (rels_of x)) a
-    ∙ (id-at x 0 x.program.types.atoms (view_rels x 0 (begins x)) ty kind e l ∙ ap (λ t. slice_get (rels_of_id x t) kind) (let q : 0 + ty ≡ ty = omega arith in q))
+    ∙ (id-at x 0 x.program.types.atoms (view_rels x 0 (begins x) ++ added_rels x x.reads) ty kind e l ∙ ap (λ t. slice_get (rels_of_id x t) kind) (let q : 0 + ty ≡ ty = omega arith in q))

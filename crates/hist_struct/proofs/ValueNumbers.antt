@@ -1,7 +1,7 @@
 -- The function of each query stands at its number, at each set of calls that formulas take for a snapshot.
-use Rattle.std.proofs.Common.{◌≡◌, ℕ, zero, suc, ◌+◌, ◌*◌, ◌-◌, ◌<◌, ◌≤◌, nat_lt, Bool, true, false, if◌then◌else◌, List, [], ◌∷◌, ◌++◌, length, filter, take, slice_get, Some, refl, sym, ap, ap₂, ◌∙◌, arith}
+use Rattle.std.proofs.Common.{◌≡◌, ℕ, zero, suc, ◌+◌, ◌*◌, ◌<◌, Bool, true, false, if◌then◌else◌, List, [], ◌∷◌, ◌++◌, length, filter, take, slice_get, Some, refl, sym, ap, ap₂, ◌∙◌, length-append, arith}
+use Rattle.std.proofs.Math.Nat.{add-mul}
 use Rattle.std.proofs.lemmas.List.Sums.{length-filter}
-use Rattle.std.proofs.lemmas.Bool.{le-ltb}
 use Rattle.std.proofs.lemmas.Option.{none-some, same_Some}
 use Rattle.rp_lang.specs.declared.query.QueryDecl.{QueryDecl}
 use Rattle.rp_lang.specs.Typing.{is_get}
@@ -9,11 +9,12 @@ use Rattle.rp_lang.specs.Programs.{Prog}
 use Rattle.crdt_defs.specs.Calls.{Call}
 use Rattle.event_machine.specs.WellFormed.{At}
 use Rattle.rp_logic.specs.Structures.{Fun}
-use Rattle.rp_symbols.specs.Numbers.{ids, gets, view_place, val_fn, old_rel, snapshot_rel, part_rel, seen_rel, read_rel}
-use Rattle.rp_symbols.proofs.StandToo.{no-block, one-block}
+use Rattle.rp_symbols.specs.Numbers.{ids, gets, view_place, val_fn, old_rel, snapshot_rel, part_rel, seen_rel, read_rel, added_rel}
+use Rattle.rp_symbols.proofs.LookUps.{get-front}
+use Rattle.rp_symbols.proofs.StandToo.{no-block, one-block, view-place}
 use Rattle.hist_struct.specs.QueryValues.{val_table, val_tables}
 use Rattle.hist_struct.specs.Steps.{Step, begins, is_done, is_part, is_seen, is_read}
-use Rattle.hist_struct.specs.Structure.{vals_at, view_vals, vals_of, fns_of}
+use Rattle.hist_struct.specs.Structure.{vals_at, view_vals, added_vals, vals_of, fns_of}
 use Rattle.hist_struct.proofs.TableFacts.{get-behind}
 
 -- # Numbers
@@ -99,7 +100,7 @@ module _ (x : Step) (n : ℕ) (query : QueryDecl) (at : At x.program.queries n q
 
   -- # At views and reading sets
 
-  behind-three : (view j : ℕ) → view_place x.program view ≡ suc (suc (suc j)) → slice_get (fns_of x) (val_fn x.program view n) ≡ slice_get (view_vals x 0 (begins x)) (j * gets x.program.queries + gets (take n x.program.queries))
+  behind-three : (view j : ℕ) → view_place x.program view ≡ suc (suc (suc j)) → slice_get (fns_of x) (val_fn x.program view n) ≡ slice_get (view_vals x 0 (begins x) ++ added_vals x x.reads) (j * gets x.program.queries + gets (take n x.program.queries))
   behind-three view j e =
       at-place view (suc (suc (suc j))) e
       ∙ (past-block x.old.calls (is_done x.old) _ (suc (suc j)) ∙ (past-block x.new.calls x.snapshot _ (suc j) ∙ past-block x.old.calls (is_part x) _ j))
@@ -127,25 +128,43 @@ module _ (x : Step) (n : ℕ) (query : QueryDecl) (at : At x.program.queries n q
             ∙ (r.1 ∙ ap (λ m. Some (val_table x.program x.old.calls (is_read x.old x.inv m) n query)) e))),
       )
 
-  abbrev chosen : Bool → Bool → Bool → ℕ → ℕ
-  chosen a b c n = if a then 0 else if b then 1 else if c then 2 else n
-
-  late : (n m : ℕ) → n ≤ m → nat_lt m n ≡ false
-  late n m l = le-ltb m n l
-
-  place-of : (m j : ℕ) → m ≡ 3 * ids x.program.types.atoms + j → view_place x.program (9 + m) ≡ suc (suc (suc j))
-  place-of m j e =
-      let r : 9 + m - 9 - 3 * ids x.program.types.atoms + 3 ≡ suc (suc (suc j)) = omega (arith, e) in
-      ap (λ a. chosen a (nat_lt (9 + m) 8) (nat_lt (9 + m) 9) (9 + m - 9 - 3 * ids x.program.types.atoms + 3)) (late 1 (9 + m) (omega arith))
-      ∙ (ap (λ b. chosen false b (nat_lt (9 + m) 9) (9 + m - 9 - 3 * ids x.program.types.atoms + 3)) (late 8 (9 + m) (omega arith))
-      ∙ (ap (λ c. chosen false false c (9 + m - 9 - 3 * ids x.program.types.atoms + 3)) (late 9 (9 + m) (omega arith)) ∙ r))
-
   pub seen-found : (k : ℕ) → k < begins x → slice_get (fns_of x) (val_fn x.program (seen_rel x.program k) n) ≡ Some (val_table x.program x.old.calls (is_seen x.old x.inv k) n query)
   seen-found k l =
-      behind-three (seen_rel x.program k) (k + k) (place-of (3 * ids x.program.types.atoms + (k + k)) (k + k) refl)
-      ∙ ((two-at 0 (begins x) k l).0 ∙ ap (λ m. Some (val_table x.program x.old.calls (is_seen x.old x.inv m) n query)) (let e : 0 + k ≡ k = omega arith in e))
+      behind-three (seen_rel x.program k) (k + k) (view-place x.program (3 * ids x.program.types.atoms + (k + k)) (k + k) refl)
+      ∙ (get-front (view_vals x 0 (begins x)) (added_vals x x.reads) _ _ (two-at 0 (begins x) k l).0 ∙ ap (λ m. Some (val_table x.program x.old.calls (is_seen x.old x.inv m) n query)) (let e : 0 + k ≡ k = omega arith in e))
 
   pub read-found : (k : ℕ) → k < begins x → slice_get (fns_of x) (val_fn x.program (read_rel x.program k) n) ≡ Some (val_table x.program x.old.calls (is_read x.old x.inv k) n query)
   read-found k l =
-      behind-three (read_rel x.program k) (suc (k + k)) (place-of (3 * ids x.program.types.atoms + suc (k + k)) (suc (k + k)) refl)
-      ∙ ((two-at 0 (begins x) k l).1 ∙ ap (λ m. Some (val_table x.program x.old.calls (is_read x.old x.inv m) n query)) (let e : 0 + k ≡ k = omega arith in e))
+      behind-three (read_rel x.program k) (suc (k + k)) (view-place x.program (3 * ids x.program.types.atoms + suc (k + k)) (suc (k + k)) refl)
+      ∙ (get-front (view_vals x 0 (begins x)) (added_vals x x.reads) _ _ (two-at 0 (begins x) k l).1 ∙ ap (λ m. Some (val_table x.program x.old.calls (is_read x.old x.inv m) n query)) (let e : 0 + k ≡ k = omega arith in e))
+
+  -- # At the reading sets that a path adds
+
+  views-long : (k m : ℕ) → length (view_vals x k m) ≡ (m + m) * gets x.program.queries
+  views-long k zero = let z : 0 * gets x.program.queries ≡ 0 = omega arith in sym z
+  views-long k (suc m) =
+      let one = vals-count x.program x.old.calls (is_seen x.old x.inv k) 0 x.program.queries ∙ many-gets x.program.queries in
+      let two = vals-count x.program x.old.calls (is_read x.old x.inv k) 0 x.program.queries ∙ many-gets x.program.queries in
+      let rest = views-long (suc k) m in
+      let inner = length-append (vals_at x x.old.calls (is_read x.old x.inv k)) (view_vals x (suc k) m) in
+      let outer = length-append (vals_at x x.old.calls (is_seen x.old x.inv k)) (vals_at x x.old.calls (is_read x.old x.inv k) ++ view_vals x (suc k) m) in
+      let a = one-block (m + m) (gets x.program.queries) 0 in
+      let b = one-block (suc (m + m)) (gets x.program.queries) 0 in
+      outer ∙ (ap₂ (λ a b. a + b) one (inner ∙ ap₂ (λ a b. a + b) two rest) ∙ ((let sum : gets x.program.queries + (gets x.program.queries + (m + m) * gets x.program.queries) ≡ suc (suc (m + m)) * gets x.program.queries = omega (arith, a, b) in sum)
+      ∙ ap (λ z. z * gets x.program.queries) (sym (doubled m))))
+
+  added-in : (reads : List (ℕ → Bool)) (j : ℕ) (set : ℕ → Bool) → At reads j set
+      → slice_get (added_vals x reads) (j * gets x.program.queries + gets (take n x.program.queries)) ≡ Some (val_table x.program x.old.calls set n query)
+  added-in [] j set e = absurd (none-some set e)
+  added-in (f ∷ fs) zero set e = first-block x.old.calls f _ ∙ ap (λ s. Some (val_table x.program x.old.calls s n query)) (same_Some f set e)
+  added-in (f ∷ fs) (suc j) set e = past-block x.old.calls f _ j ∙ added-in fs j set e
+
+  pub added-found : (j : ℕ) (set : ℕ → Bool) → At x.reads j set
+      → slice_get (fns_of x) (val_fn x.program (added_rel x.program (begins x) j) n) ≡ Some (val_table x.program x.old.calls set n query)
+  added-found j set e =
+      let g = gets x.program.queries in
+      let t = gets (take n x.program.queries) in
+      behind-three (added_rel x.program (begins x) j) (begins x + begins x + j) (view-place x.program (3 * ids x.program.types.atoms + (begins x + begins x + j)) (begins x + begins x + j) refl)
+      ∙ (get-behind (view_vals x 0 (begins x)) (added_vals x x.reads) ((begins x + begins x + j) * g + t) (j * g + t)
+      (ap (λ m. m + t) (add-mul (begins x + begins x) j g) ∙ (let c = views-long 0 (begins x) in omega (arith, c)))
+      ∙ added-in x.reads j set e)

@@ -13,7 +13,7 @@ use Rattle.hist_struct.proofs.CallFacts.{lt-true}
 use Rattle.hist_struct.proofs.SetFacts.{in-done}
 use Rattle.hist_struct.proofs.MarkFacts.{mark-of, seen-closed}
 use Rattle.hist_struct.proofs.MoveFacts.{Kept, kept}
-use Rattle.hist_struct.proofs.TableFacts.{seen-at, read-at}
+use Rattle.hist_struct.proofs.TableFacts.{seen-at, read-at, added-at}
 use Rattle.hist_struct.proofs.TableLaws.{in-set}
 
 -- a set of numbers below m, in a table that is as long or longer
@@ -26,8 +26,8 @@ narrow f m n c low = go (f c) refl
         let l = low e in
         ap (λ b. b && nat_lt c n) e ∙ (lt-true c n l.1 ∙ (sym (lt-true c m l.0) ∙ sym (ap (λ b. b && nat_lt c m) e)))
 
-pub views-fit : (x : Step) (consts : List ℕ) (reads : ℕ) → is_well_formed x.program ≡ true → IsStep x → AreViews x (meaning_of (sig_at x consts reads) x)
-views-fit x consts reads w m = record {
+pub views-fit : (x : Step) (consts : List ℕ) → is_well_formed x.program ≡ true → IsStep x → AreViews x (meaning_of (sig_at x consts) x)
+views-fit x consts w m = record {
   old = record { visible_calls = λ c i. in-set (is_done x.old) (length x.new.calls) c ∙ narrow (is_done x.old) _ _ c (done-low c) };
   part = record { visible_calls = λ c i. in-set (is_part x) (length x.new.calls) c ∙ narrow (is_part x) _ _ c (λ e. done-low c (and_parts (x.snapshot c) (is_done x.old c) e).1) };
   seen = λ k l. record {
@@ -40,6 +40,7 @@ views-fit x consts reads w m = record {
         ap (λ o. is_related o (one_point c)) (read-at x k l)
         ∙ (in-set (is_read x.old x.inv k) (length x.new.calls) c ∙ narrow (is_read x.old x.inv k) _ _ c (λ e. read-low k c e));
   };
+  added = λ j set e. record { visible_calls = λ c i. ap (λ o. is_related o (one_point c)) (added-at x j set e) ∙ in-set set (length x.old.calls) c };
   snapshot = record { visible_calls = λ c i. in-set x.snapshot (length x.new.calls) c };
 }
   where

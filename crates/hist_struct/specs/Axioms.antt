@@ -14,7 +14,8 @@ use Rattle.crdt_enc.specs.Builders.{one_fm}
 use Rattle.reshape.specs.Joined.{joined}
 use Rattle.crdt_enc.specs.Builders.{over_one, over_two, applied, built}
 use Rattle.rp_symbols.specs.Numbers.{old_rel, new_rel, was_rel, there_rel, snapshot_rel, part_rel, seen_rel, read_rel, id_rel, old_result_fn, new_result_fn}
-use Rattle.hist_struct.specs.Conditions.{values_of, cons_of, depth}
+use Rattle.hist_struct.specs.Defaults.{most_parts}
+use Rattle.hist_struct.specs.Conditions.{values_of, cons_of}
 use Rattle.rp_symbols.specs.Signatures.{result_list}
 
 -- # Builders
@@ -229,6 +230,6 @@ each_of f n (a ∷ as_) = f n a ++ each_of f (suc n) as_
 -- in operations, among arguments, in results before the step
 abbrev pub places_are_told : Prog → List Fm
 places_are_told p =
-    each_of (λ o (decl : OpDecl). of_con (places p call_sort 0 (depth p)) no_fm (op_con p o) decl.args (applied op_fn (Var 0))) 0 p.ops
-    ++ (each_of (λ k (q : Proc). of_con (places p inv_sort 1 (depth p)) no_fm (info_con p k) q.params (applied info_fn (Var 0))) 0 p.procs
-    ++ each_of (λ k (q : Proc). of_con (places p inv_sort 2 (depth p)) no_fm (outcome_con p k) (result_list q.result) (applied old_result_fn (Var 0))) 0 p.procs)
+    each_of (λ o (decl : OpDecl). of_con (places p call_sort 0 most_parts) no_fm (op_con p o) decl.args (applied op_fn (Var 0))) 0 p.ops
+    ++ (each_of (λ k (q : Proc). of_con (places p inv_sort 1 most_parts) no_fm (info_con p k) q.params (applied info_fn (Var 0))) 0 p.procs
+    ++ each_of (λ k (q : Proc). of_con (places p inv_sort 2 most_parts) no_fm (outcome_con p k) (result_list q.result) (applied old_result_fn (Var 0))) 0 p.procs)

@@ -12,6 +12,7 @@ use Rattle.rp_value.specs.declared.tables.DataDecl.{DataDecl}
 use Rattle.rp_lang.specs.declared.op.OpDecl.{OpDecl}
 use Rattle.crdt_defs.specs.Fitting.{names_ids, fields_of}
 use Rattle.event_machine.specs.WellFormed.{At}
+use Rattle.hist_struct.specs.Defaults.{most_parts}
 use Rattle.rp_symbols.specs.Signatures.{result_list}
 use Rattle.rp_symbols.specs.Numbers.{call_sort, inv_sort, atom_sort, before_rel, stamp_rel, same_rel, op_fn, origin_fn, info_fn, op_con, info_con, unreturned_con, outcome_con}
 use Rattle.rp_symbols.specs.Numbers.{old_rel, new_rel, was_rel, there_rel, snapshot_rel, part_rel, seen_rel, read_rel, id_rel, old_result_fn, new_result_fn}
@@ -177,15 +178,12 @@ abbrev pub StandsAt : Prog → ℕ → Ty → Elem → ℕ → Elem → Type 0
 StandsAt p zero ty e n y = StandsIn p (λ ty e n y. ⊥) ty e n y
 StandsAt p (suc fuel) ty e n y = StandsIn p (StandsAt p fuel) ty e n y
 
--- datatypes aren't recursive, so no value is deeper
-abbrev pub depth : Prog → ℕ
-depth p = length p.types.datatypes
-
--- An identifier that stands in an operation, among arguments or in a result before the step does so by its relation.
+-- An identifier that stands in an operation, among arguments or in a result before the step, at whatever depth, does so by its
+-- relation: no value is deeper than a datatype may have parts.
 pub record PlacesAreTold (p : Prog) (M : Meaning) : Type 0 where
   pub ops : (o : ℕ) (decl : OpDecl) → At p.ops o decl → EachCall M (λ c. (n : ℕ) (y : Elem)
-      → Fields (StandsAt p (depth p)) (op_con p o) decl.args (value_at M op_fn c) n y → Rel M (id_rel p n 0) c y)
+      → Fields (StandsAt p most_parts) (op_con p o) decl.args (value_at M op_fn c) n y → Rel M (id_rel p n 0) c y)
   pub infos : (k : ℕ) (q : Proc) → At p.procs k q → EachInv M (λ i. (n : ℕ) (y : Elem)
-      → Fields (StandsAt p (depth p)) (info_con p k) q.params (value_at M info_fn i) n y → Rel M (id_rel p n 1) i y)
+      → Fields (StandsAt p most_parts) (info_con p k) q.params (value_at M info_fn i) n y → Rel M (id_rel p n 1) i y)
   pub results : (k : ℕ) (q : Proc) → At p.procs k q → EachInv M (λ i. (n : ℕ) (y : Elem)
-      → Fields (StandsAt p (depth p)) (outcome_con p k) (result_list q.result) (value_at M old_result_fn i) n y → Rel M (id_rel p n 2) i y)
+      → Fields (StandsAt p most_parts) (outcome_con p k) (result_list q.result) (value_at M old_result_fn i) n y → Rel M (id_rel p n 2) i y)

@@ -1,5 +1,7 @@
 pub mod Axioms
 pub mod Conditions
+pub mod Defaults
+pub mod Extension
 pub mod Holding
 pub mod means
 pub mod QueryValues

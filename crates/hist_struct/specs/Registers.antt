@@ -23,7 +23,7 @@ use Rattle.rp_logic.specs.Formulas.{Fm, And, All, no_fm, also_fm}
 use Rattle.rp_logic.specs.Filling.{raised}
 use Rattle.rp_logic.specs.Truth.{Meaning}
 use Rattle.rp_symbols.specs.Numbers.{stamp_rel, before_rel, op_fn, op_con, val_fn}
-use Rattle.rp_symbols.specs.Numbers.{old_rel, snapshot_rel, part_rel, seen_rel, read_rel}
+use Rattle.rp_symbols.specs.Numbers.{old_rel, snapshot_rel, part_rel, seen_rel, read_rel, added_rel}
 use Rattle.rp_symbols.specs.Signatures.{sort_of}
 use Rattle.crdt_enc.specs.Builders.{one_fm, tms_of}
 use Rattle.crdt_enc.specs.Elements.{elems}
@@ -206,16 +206,23 @@ abbrev pub registers_of_views : Prog → ℕ → List Fm
 registers_of_views p zero = []
 registers_of_views p (suc n) = registers_tell p (seen_rel p n) ++ (registers_tell p (read_rel p n) ++ registers_of_views p n)
 
--- at each view
-abbrev pub registers_are_told : Prog → ℕ → List Fm
-registers_are_told p begins =
-    registers_tell p old_rel ++ (registers_tell p snapshot_rel ++ (registers_tell p part_rel ++ registers_of_views p begins))
+-- at the first n reading sets that a path adds behind so many begins
+abbrev pub registers_of_added : Prog → ℕ → ℕ → List Fm
+registers_of_added p begins zero = []
+registers_of_added p begins (suc n) = registers_tell p (added_rel p begins n) ++ registers_of_added p begins n
 
--- Registers tell at the calls committed before the step, at the snapshot, at its part, and at what is seen and read from each
--- begin on.
-pub record RegistersAreTold (p : Prog) (begins : ℕ) (M : Meaning) : Type 0 where
+-- at each view and each reading set
+abbrev pub registers_are_told : Prog → ℕ → ℕ → List Fm
+registers_are_told p begins reads =
+    registers_tell p old_rel
+    ++ (registers_tell p snapshot_rel ++ (registers_tell p part_rel ++ (registers_of_views p begins ++ registers_of_added p begins reads)))
+
+-- Registers tell at the calls committed before the step, at the snapshot, at its part, at what is seen and read from each begin
+-- on, and at each reading set that a path adds.
+pub record RegistersAreTold (p : Prog) (begins reads : ℕ) (M : Meaning) : Type 0 where
   pub old : RegistersTell p M old_rel
   pub snapshot : RegistersTell p M snapshot_rel
   pub part : RegistersTell p M part_rel
   pub seen : (k : ℕ) → k < begins → RegistersTell p M (seen_rel p k)
   pub read : (k : ℕ) → k < begins → RegistersTell p M (read_rel p k)
+  pub added : (j : ℕ) → j < reads → RegistersTell p M (added_rel p begins j)

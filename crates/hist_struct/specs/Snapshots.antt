@@ -1,12 +1,12 @@
 -- Where formulas are meant in the structure of a step, and which of its sets of calls are snapshots of the state before.
-use Rattle.std.specs.Prelude.{ℕ, ◌<◌, Bool, List, Option}
+use Rattle.std.specs.Prelude.{◌≡◌, ℕ, ◌<◌, Bool, List, Option, Some, slice_get}
 use Rattle.rp_value.specs.Values.{Val}
 use Rattle.rp_lang.specs.Programs.{Prog}
 use Rattle.crdt_defs.specs.Snapshots.{IsSnapshot}
 use Rattle.crdt_defs.specs.Truths.{Reading}
 use Rattle.event_machine.specs.Machine.{State, plain}
 use Rattle.event_machine.specs.WellFormed.{commits_of}
-use Rattle.rp_symbols.specs.Numbers.{old_rel, new_rel, was_rel, there_rel, old_result_fn, new_result_fn, part_rel, seen_rel, read_rel, snapshot_rel}
+use Rattle.rp_symbols.specs.Numbers.{old_rel, new_rel, was_rel, there_rel, old_result_fn, new_result_fn, part_rel, seen_rel, read_rel, added_rel, snapshot_rel}
 use Rattle.rp_logic.specs.Truth.{Meaning}
 use Rattle.crdt_enc.specs.Places.{At}
 use Rattle.crdt_enc.specs.FitsParts.{FitsView}
@@ -27,13 +27,14 @@ pub record AreSnapshots (x : Step) : Type 0 where
   pub seen : (k : ℕ) → IsSnapshot x.old.calls (commits_of x.old.txs) (is_seen x.old x.inv k)
   pub part : IsSnapshot x.old.calls (commits_of x.old.txs) (is_part x)
 
--- The structure's sets are those, and what is read right after each begin: at the state before, and for the snapshot at the
--- state after.
+-- The structure's sets are those, and what is read right after each begin and after further own calls: at the state before,
+-- and for the snapshot at the state after.
 pub record AreViews (x : Step) (M : Meaning) : Type 0 where
   pub old : FitsView M x.old.calls old_rel (is_done x.old)
   pub part : FitsView M x.old.calls part_rel (is_part x)
   pub seen : (k : ℕ) → k < begins x → FitsView M x.old.calls (seen_rel x.program k) (is_seen x.old x.inv k)
   pub read : (k : ℕ) → k < begins x → FitsView M x.old.calls (read_rel x.program k) (is_read x.old x.inv k)
+  pub added : (j : ℕ) (set : ℕ → Bool) → slice_get x.reads j ≡ Some set → FitsView M x.old.calls (added_rel x.program (begins x) j) set
   pub snapshot : FitsView M x.new.calls snapshot_rel x.snapshot
 
 -- # What formulas read
@@ -49,4 +50,6 @@ pub record AreStages (x : Step) (M : Meaning) (slots : List (Option Val)) : Type
   pub part : Stage (reading x.program x.old (is_part x) slots) M (before_at part_rel)
   pub seen : (k : ℕ) → k < begins x → Stage (reading x.program x.old (is_seen x.old x.inv k) slots) M (before_at (seen_rel x.program k))
   pub read : (k : ℕ) → k < begins x → Stage (reading x.program x.old (is_read x.old x.inv k) slots) M (before_at (read_rel x.program k))
+  pub added : (j : ℕ) (set : ℕ → Bool) → slice_get x.reads j ≡ Some set
+      → Stage (reading x.program x.old set slots) M (before_at (added_rel x.program (begins x) j))
   pub snapshot : Stage (reading x.program x.new x.snapshot slots) M (after_at snapshot_rel)

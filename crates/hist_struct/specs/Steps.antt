@@ -22,6 +22,8 @@ pub record Step : Type 0 where
   pub snapshot : ℕ → Bool
   -- the path's constants
   pub vals : List Elem
+  -- what is read after further own calls of the path: sets of calls of the old state
+  pub reads : List (ℕ → Bool)
 
 abbrev pub begins : Step → ℕ
 begins x = x.views - 1
@@ -77,12 +79,12 @@ pub record IsStep (x : Step) : Type 0 where
 
 -- # Which steps there are
 
-abbrev pub step_of : Prog → State → State → ℕ → (ℕ → Bool) → ℕ → List Elem → Step
-step_of p old new i snapshot views vals = record { program = p; old = old; new = new; inv = i; views = views; snapshot = snapshot; vals = vals }
+abbrev pub step_of : Prog → State → State → ℕ → (ℕ → Bool) → ℕ → List Elem → List (ℕ → Bool) → Step
+step_of p old new i snapshot views vals reads = record { program = p; old = old; new = new; inv = i; views = views; snapshot = snapshot; vals = vals; reads = reads }
 
 -- at the very start: no call, no invocation
 abbrev pub nothing_yet : Prog → ℕ → Step
-nothing_yet p universe = step_of p (empty universe) (empty universe) 0 (λ c. false) 0 []
+nothing_yet p universe = step_of p (empty universe) (empty universe) 0 (λ c. false) 0 [] []
 
 -- the label is one of this invocation, or the one that makes it
 abbrev pub Acts : State → Label → ℕ → Type 0

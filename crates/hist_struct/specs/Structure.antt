@@ -1,5 +1,5 @@
 -- The structure of a step, as a value.
-use Rattle.std.specs.Prelude.{◌≡◌, ℕ, zero, suc, ◌<◌, Bool, true, false, nat_lt, if◌then◌else◌, List, [], ◌∷◌, ◌++◌, length, replicate, Option, Some, None, slice_get}
+use Rattle.std.specs.Prelude.{◌≡◌, ℕ, zero, suc, ◌<◌, Bool, true, false, nat_lt, if◌then◌else◌, List, [], ◌∷◌, ◌++◌, length, get_or, replicate, Option, Some, None, slice_get}
 use Rattle.std.specs.List.{list_any}
 use Rattle.rp_value.specs.declared.tables.AtomType.{AtomType}
 use Rattle.rp_value.specs.Values.{Val, Atom}
@@ -14,12 +14,13 @@ use Rattle.rp_logic.specs.declared.sort.Sort.{Sort}
 use Rattle.rp_logic.specs.declared.sort.Sort.TheVariants as so
 use Rattle.rp_logic.specs.Signatures.{Signature, is_con_of}
 use Rattle.rp_logic.specs.Elements.{Elem, Point, Made, no_elem, also_elem, junk}
-use Rattle.rp_logic.specs.Structures.{Fun, Sum, Difference, Relation, Structure}
+use Rattle.rp_logic.specs.Structures.{Fun, Sum, Difference, Relation, Structure, Is}
 use Rattle.rp_logic.specs.Truth.{Meaning, meaning}
 use Rattle.rp_symbols.specs.Numbers.{op_con, info_con, unreturned_con, outcome_con}
 use Rattle.rp_symbols.specs.Signatures.{sig_of, with_path}
 use Rattle.crdt_enc.specs.Elements.{elem_of, elems_of}
 use Rattle.hist_struct.specs.Tables.{set_relation, pair_relation, pairs, table}
+use Rattle.hist_struct.specs.Defaults.{defaults_of}
 use Rattle.hist_struct.specs.QueryValues.{val_tables}
 use Rattle.hist_struct.specs.Steps.{Step, begins, is_done, is_lesser, is_part, is_seen, is_read}
 
@@ -90,6 +91,11 @@ view_rels x k zero = []
 view_rels x k (suc n) =
     set_relation (is_seen x.old x.inv k) (length x.new.calls) ∷ set_relation (is_read x.old x.inv k) (length x.new.calls) ∷ view_rels x (suc k) n
 
+-- the reading sets that a path adds
+abbrev pub added_rels : Step → List (ℕ → Bool) → List Relation
+added_rels x [] = []
+added_rels x (f ∷ fs) = set_relation f (length x.old.calls) ∷ added_rels x fs
+
 abbrev pub rels_of : Step → List Relation
 rels_of x =
     let calls = length x.new.calls in
@@ -102,7 +108,7 @@ rels_of x =
     ∷ pair_relation (same_tx x.new.calls) calls
     ∷ set_relation x.snapshot calls
     ∷ set_relation (is_part x) calls
-    ∷ (id_rels x 0 x.program.types.atoms ++ view_rels x 0 (begins x))
+    ∷ (id_rels x 0 x.program.types.atoms ++ (view_rels x 0 (begins x) ++ added_rels x x.reads))
 
 -- # Functions
 
@@ -116,11 +122,16 @@ view_vals x k zero = []
 view_vals x k (suc n) =
     vals_at x x.old.calls (is_seen x.old x.inv k) ++ (vals_at x x.old.calls (is_read x.old x.inv k) ++ view_vals x (suc k) n)
 
+-- at the reading sets that a path adds
+abbrev pub added_vals : Step → List (ℕ → Bool) → List Fun
+added_vals x [] = []
+added_vals x (f ∷ fs) = vals_at x x.old.calls f ++ added_vals x fs
+
 -- at all sets of calls that formulas take for a snapshot
 abbrev pub vals_of : Step → List Fun
 vals_of x =
     vals_at x x.old.calls (is_done x.old)
-    ++ (vals_at x x.new.calls x.snapshot ++ (vals_at x x.old.calls (is_part x) ++ view_vals x 0 (begins x)))
+    ++ (vals_at x x.new.calls x.snapshot ++ (vals_at x x.old.calls (is_part x) ++ (view_vals x 0 (begins x) ++ added_vals x x.reads)))
 
 abbrev pub fns_of : Step → List Fun
 fns_of x =
@@ -137,22 +148,21 @@ abbrev pub self_of : Step → ℕ → List Elem
 self_of x zero = []
 self_of x (suc n) = Point x.inv ∷ x.vals
 
--- The defaults of sorts are still to come.
 abbrev pub structure_of : Step → Structure
 structure_of x = record {
   sizes = length x.new.calls ∷ length x.new.invocations ∷ replicate (length x.program.types.atoms) x.new.universe;
   consts = self_of x x.views;
   fns = fns_of x;
   rels = rels_of x;
-  defaults = [];
+  defaults = defaults_of x.program;
   selected = [];
 }
 
 -- # Its signature
 
 -- that of the program, with the constants and reading sets that a path adds
-abbrev pub sig_at : Step → List ℕ → ℕ → Signature
-sig_at x consts reads = with_path x.program consts reads (sig_of x.program x.views)
+abbrev pub sig_at : Step → List ℕ → Signature
+sig_at x consts = with_path x.program consts (length x.reads) (sig_of x.program x.views)
 
 -- Any whose first sorts are calls and invocations, without constructors of theirs
 
@@ -163,3 +173,12 @@ pub record IsSig (S : Signature) : Type 0 where
 
 abbrev pub meaning_of : Signature → Step → Meaning
 meaning_of S x = meaning S (structure_of x)
+
+-- # A structure of that signature
+
+-- Without an acting invocation there are no constants; with one it is there after the step, and the path's constants are of
+-- their sorts.
+pub record ConstsFit (x : Step) (consts : List ℕ) : Type 0 where
+  pub none : x.views ≡ 0 → consts ≡ []
+  pub acts : (n : ℕ) → x.views ≡ suc n → x.inv < length x.new.invocations
+  pub vals : (k s : ℕ) → slice_get consts k ≡ Some s → Is (sig_at x consts) (structure_of x) s (get_or x.vals k junk)

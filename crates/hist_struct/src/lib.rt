@@ -6,6 +6,6 @@ mod laws;
 pub mod rows;
 
 pub use laws::{
-    axioms_are_exact, axioms_hold, elements_are_values, labels_are_steps, structures_fit,
-    tables_hold,
+    axioms_are_exact, axioms_hold, defaults_are_values, elements_are_values, extensions_go_on,
+    labels_are_steps, no_value_is_deeper, steps_are_structures, structures_fit, tables_hold,
 };

@@ -3,7 +3,7 @@ use Rattle.std.proofs.Common.{◌≡◌, ℕ, zero, suc, ◌+◌, ◌<◌, ◌�
 use Rattle.std.specs.Prelude.{if◌then◌else◌, option_map, ◌||◌, Result, Ok, Err, IfOk}
 use Rattle.std.proofs.lemmas.Bool.{true≢false, false_from_ne_true, lt-ltb, le-ltb}
 use Rattle.std.proofs.lemmas.List.{drop_all}
-use Rattle.std.proofs.lemmas.Option.{slice_get_past, slice_get-map, slice_get_within}
+use Rattle.std.proofs.lemmas.Option.{slice_get_past, slice_get-map}
 use Rattle.rp_value.specs.Values.{Val}
 use Rattle.rp_lang.specs.Formulas.{Fo}
 use Rattle.rp_lang.specs.Programs.{Inv, Prog}
@@ -31,6 +31,7 @@ use Rattle.machine_checks.specs.Checking.{answer_of}
 use Rattle.machine_effects.specs.Limits.{limit_of, of_all}
 use Rattle.machine_effects.specs.Steps.{Tells, Does}
 use Rattle.machine_effects.proofs.EffectLemmas.{reads_seen}
+use Rattle.machine_next.proofs.NextLemmas.{viewed_as}
 use Rattle.machine_reads.proofs.ReadingLemmas.{seen_listed}
 use Rattle.machine_state.specs.declared.state.Run.{Run}
 use Rattle.machine_state.specs.declared.state.State.{State}
@@ -38,7 +39,7 @@ use Rattle.machine_state.specs.declared.state.Standing as stood
 use Rattle.machine_state.specs.declared.state.Standing.TheVariants as stand
 use Rattle.machine_state.specs.Accessors.{has_ended, is_returned}
 use Rattle.machine_state.specs.Fits.{Fits}
-use Rattle.machine_state.proofs.StateLemmas.{nothing, one_found, invs_length, viewed}
+use Rattle.machine_state.proofs.StateLemmas.{nothing, one_found, invs_length}
 use Rattle.machine_state.specs.StateView as views
 use Rattle.machine_state.specs.StateView.{invs_view, txs_view, standing_view, state_view}
 
@@ -75,19 +76,31 @@ pub info_tells : (p : Program) (s : State) (i : ℕ) (inv : seen.Invocation) →
 info_tells p s i inv fits at =
     let v = program_view p in
     let calls = calls_view s.history in
-    let same : length s.infos ≡ length s.runs = fits.kept.runs in
-    let count : length (invs_view v calls s.infos s.runs) ≡ length s.runs = invs_length v calls s.infos s.runs same in
-    let within : i < length (invs_view v calls s.infos s.runs) = slice_get_within (invs_view v calls s.infos s.runs) i inv at in
-    let it = viewed v s i same (omega arith) in
+    let it = viewed_as p s i inv fits at in
     ap (option_map info_view) it.is_info
     ∙ ap (λ x. Some x) (info_is v calls it.info it.run (fits.kept.told i it.info it.run it.is_info it.is_run))
     ∙ ap (λ (inv : seen.Invocation). Some (spec.info inv)) (one_found (slice_get (state_view v s).invocations i) (views.inv_view v calls it.info it.run) inv it.is at)
+
+pub view_tells : (p : Program) (s : State) (i : ℕ) (inv : seen.Invocation) → Fits p s → slice_get (state_view (program_view p) s).invocations i ≡ Some inv
+    → option_map (λ (run : Run). spec.calls_of (calls_view s.history) run.seen) (slice_get s.runs i) ≡ Some inv.view
+view_tells p s i inv fits at =
+    let v = program_view p in
+    let calls = calls_view s.history in
+    let it = viewed_as p s i inv fits at in
+    ap (option_map (λ (run : Run). spec.calls_of calls run.seen)) it.is_run
+    ∙ ap (λ (inv : seen.Invocation). Some inv.view) (one_found (slice_get (state_view v s).invocations i) (views.inv_view v calls it.info it.run) inv it.is at)
+
+pub count_tells : (p : Program) (s : State) → Fits p s → length s.infos ≡ length (state_view (program_view p) s).invocations
+count_tells p s fits = fits.kept.runs ∙ sym (invs_length (program_view p) (calls_view s.history) s.infos s.runs fits.kept.runs)
 
 committed_are : (owners : List ℕ) (committed : List Bool) → length owners ≡ length committed → committed ≡ map (λ (tx : seen.Tx). tx.committed) (txs_view owners committed)
 committed_are [] [] same = refl
 committed_are [] (b ∷ committed) same = absurd (omega arith)
 committed_are (o ∷ owners) [] same = absurd (omega arith)
 committed_are (o ∷ owners) (b ∷ committed) same = ap (λ rest. b ∷ rest) (committed_are owners committed (omega arith))
+
+pub committed_tells : (p : Program) (s : State) → Fits p s → s.committed ≡ map (λ (tx : seen.Tx). tx.committed) (state_view (program_view p) s).txs
+committed_tells p s fits = committed_are s.owners s.committed fits.kept.txs
 
 -- what is lent to invariants
 abbrev pub lent : State → List Bool → List parts.Info → parts.Parts

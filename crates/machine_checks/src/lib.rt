@@ -6,5 +6,5 @@ mod laws;
 mod truths;
 
 pub use checks::check;
-pub use laws::infos_tell;
+pub use laws::accessors_tell;
 pub use truths::truth;

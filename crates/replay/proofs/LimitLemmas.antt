@@ -10,7 +10,8 @@ use Rattle.event_machine.specs.States.{State, Label, What, Why, Answer, Moved, C
 use Rattle.event_machine.specs.Machine.{step, refusal, effect, unless_refused}
 use Rattle.event_machine.specs.Runs.{Leads, Run}
 use Rattle.machine_effects.specs.Limits.{limit_of}
-use Rattle.replay.specs.Outcomes.{MeetsLimit, IsUnlimited, MeetsNone}
+use Rattle.replay.specs.Outcomes.{MeetsLimit, IsUnlimited, MeetsNone, IsCause}
+use Rattle.replay.specs.declared.replayed.ReplayErr.TheVariants as err
 
 -- # One run
 
@@ -119,3 +120,26 @@ pub none_refused : (p : Prog) (start s : State) (labels : List Label) (n : ℕ) 
     → Run p start (take n labels) s → slice_get labels n ≡ Some label → refusal p s label ≡ Some why → MeetsNone p start labels
 none_refused p start s labels n label why before run next is =
     none_behind p start s labels n label before (not_refused p start s labels n label why run next is) run next (stops_refused p s label why is)
+
+-- # The first limit
+
+which_is : (a b : LimitName) → Some a ≡ Some b → a ≡ b
+which_is a b h = cc
+
+one_here : (p : Prog) (start : State) (labels : List Label) (n : ℕ) (a b : LimitName) → MeetsLimit p start labels n a → MeetsLimit p start labels n b → a ≡ b
+one_here p start labels n a b f g =
+    let old : f.old ≡ g.old = same_state p start g.old labels n a g.run f in
+    let label : f.label ≡ g.label = same_label p start labels n g.label a g.next f in
+    which_is a b (sym f.limit ∙ ap (λ x. limit_of p x f.label) old ∙ ap (limit_of p g.old) label ∙ g.limit)
+
+pub one_limit : (p : Prog) (start : State) (labels : List Label) (a b : LimitName) (n m : ℕ)
+    → IsCause p start labels (err.Limit a n) → IsCause p start labels (err.Limit b m) → (a ≡ b) × (n ≡ m)
+one_limit p start labels a b n m (i, at, f, before) (j, at', g, before') = by (cases_lt i j)
+  where
+    same : (j ≡ i) ⊎ (j < i) → (a ≡ b) × (n ≡ m)
+    same (inl e) = (one_here p start labels i a b f (subst (λ k. MeetsLimit p start labels k b) e g), omega arith)
+    same (inr lt) = absurd (before j lt b g)
+
+    by : (i < j) ⊎ (j ≤ i) → (a ≡ b) × (n ≡ m)
+    by (inl lt) = absurd (before' i lt a f)
+    by (inr le) = same (eq-or-lt_of_le le)

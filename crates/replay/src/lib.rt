@@ -4,5 +4,5 @@
 mod laws;
 mod replayed;
 
-pub use laws::read_schedules_fit;
+pub use laws::{first_limits_are_one, read_schedules_fit};
 pub use replayed::{Outcome, ReplayErr, replay};

@@ -1,7 +1,7 @@
 -- Where the relations and functions of a program's signature stand.
-use Rattle.std.proofs.Common.{◌≡◌, ℕ, zero, suc, ◌+◌, ◌*◌, ◌<◌, Bool, true, false, if◌then◌else◌, List, [], ◌∷◌, ◌++◌, length, map, filter, take, replicate, Some, slice_get, refl, sym, ap, ◌∙◌, arith}
+use Rattle.std.proofs.Common.{◌≡◌, ℕ, zero, suc, ◌+◌, ◌*◌, ◌-◌, ◌<◌, ◌≤◌, nat_lt, Bool, true, false, if◌then◌else◌, List, [], ◌∷◌, ◌++◌, length, map, filter, take, replicate, Some, slice_get, refl, sym, ap, ap₂, ◌∙◌, append_assoc, length-append, le-ltb, arith}
 use Rattle.std.proofs.Math.Nat.{suc-mul}
-use Rattle.std.proofs.lemmas.List.{length-map}
+use Rattle.std.proofs.lemmas.List.{length-map, length-replicate}
 use Rattle.std.proofs.lemmas.List.Sums.{length-filter}
 use Rattle.std.proofs.lemmas.Option.{none-some, same_Some}
 use Rattle.rp_value.specs.declared.tables.AtomType.{AtomType}
@@ -9,7 +9,7 @@ use Rattle.rp_lang.specs.declared.query.QueryDecl.{QueryDecl}
 use Rattle.rp_lang.specs.Typing.{is_get}
 use Rattle.rp_lang.specs.Programs.{Prog}
 use Rattle.rp_logic.specs.declared.sort.FnDecl.{FnDecl}
-use Rattle.rp_symbols.specs.Numbers.{call_sort, inv_sort, atom_sort, ids, gets, id_rel, seen_rel, read_rel, view_place, val_fn}
+use Rattle.rp_symbols.specs.Numbers.{call_sort, inv_sort, atom_sort, ids, gets, id_rel, seen_rel, read_rel, added_rel, view_place, val_fn}
 use Rattle.rp_symbols.specs.Signatures.{sort_of, id_decls, set_decl, set_decls, rel_decls, fn_of, val_decls, val_decls_at, fn_decls}
 use Rattle.rp_symbols.proofs.LookUps.{get-front, get-behind, get-mapped}
 
@@ -87,6 +87,32 @@ seen-stands p begins k l = behind-ids p begins (k + k) (omega (arith, l))
 pub read-stands : (p : Prog) (begins k : ℕ) → k < begins → slice_get (rel_decls p begins) (read_rel p k) ≡ Some set_decl
 read-stands p begins k l = behind-ids p begins (suc (k + k)) (omega (arith, l))
 
+-- the reading sets that a path adds
+pub added-stands : (p : Prog) (begins reads j : ℕ) → j < reads → slice_get (rel_decls p begins ++ set_decls reads) (added_rel p begins j) ≡ Some set_decl
+added-stands p begins reads j l =
+    let rels = id_decls 0 p.types.atoms ++ set_decls (begins + begins) in
+    let c : length (id_decls 0 p.types.atoms) ≡ 3 * ids p.types.atoms = ids-count 0 p.types.atoms ∙ ap (λ n. 3 * n) (length-filter (λ (atom : AtomType). atom.is_id) p.types.atoms) in
+    let s : length (set_decls (begins + begins)) ≡ begins + begins = length-replicate (begins + begins) set_decl in
+    let long : length rels ≡ 3 * ids p.types.atoms + (begins + begins) = length-append (id_decls 0 p.types.atoms) (set_decls (begins + begins)) ∙ ap₂ (λ a b. a + b) c s in
+    ap (slice_get (rel_decls p begins ++ set_decls reads)) (nine (3 * ids p.types.atoms + (begins + begins + j)))
+    ∙ (ap (slice_get (rels ++ set_decls reads)) (let q : 3 * ids p.types.atoms + (begins + begins + j) ≡ 3 * ids p.types.atoms + (begins + begins) + j = omega arith in q)
+    ∙ (get-behind rels (set_decls reads) (3 * ids p.types.atoms + (begins + begins)) j long ∙ replicated reads j set_decl l))
+
+-- # The place of a view among the views
+
+abbrev chosen : Bool → Bool → Bool → ℕ → ℕ
+chosen a b c n = if a then 0 else if b then 1 else if c then 2 else n
+
+late : (n m : ℕ) → n ≤ m → nat_lt m n ≡ false
+late n m l = le-ltb m n l
+
+pub view-place : (p : Prog) (m j : ℕ) → m ≡ 3 * ids p.types.atoms + j → view_place p (9 + m) ≡ suc (suc (suc j))
+view-place p m j e =
+    let r : 9 + m - 9 - 3 * ids p.types.atoms + 3 ≡ suc (suc (suc j)) = omega (arith, e) in
+    ap (λ a. chosen a (nat_lt (9 + m) 8) (nat_lt (9 + m) 9) (9 + m - 9 - 3 * ids p.types.atoms + 3)) (late 1 (9 + m) (omega arith))
+    ∙ (ap (λ b. chosen false b (nat_lt (9 + m) 9) (9 + m - 9 - 3 * ids p.types.atoms + 3)) (late 8 (9 + m) (omega arith))
+    ∙ (ap (λ c. chosen false false c (9 + m - 9 - 3 * ids p.types.atoms + 3)) (late 9 (9 + m) (omega arith)) ∙ r))
+
 -- # Functions of queries
 
 abbrev getting : List QueryDecl → List QueryDecl
@@ -128,6 +154,23 @@ in-blocks p (suc n) (suc place) i decl l e =
 
 seven : (a b : ℕ) → 7 + a + b ≡ suc (suc (suc (suc (suc (suc (suc (a + b)))))))
 seven a b = omega arith
+
+blocks-join : (p : Prog) (m r k : ℕ) → m + r ≡ k → val_decls_at p m ++ val_decls_at p r ≡ val_decls_at p k
+blocks-join p zero r k e = ap (val_decls_at p) (let q : r ≡ k = omega (arith, e) in q)
+blocks-join p (suc m) r zero e = absurd (omega (arith, e))
+blocks-join p (suc m) r (suc k) e = append_assoc (val_decls p) (val_decls_at p m) (val_decls_at p r) ∙ ap (λ ds. val_decls p ++ ds) (blocks-join p m r k (omega (arith, e)))
+
+-- with those at the reading sets that a path adds
+pub values-with : (p : Prog) (begins reads view n : ℕ) (query : QueryDecl) → slice_get p.queries n ≡ Some query → is_get query.kind ≡ true
+    → view_place p view < 3 + (begins + begins) + reads
+    → slice_get (fn_decls p begins ++ val_decls_at p reads) (val_fn p view n) ≡ Some (fn_of (map (sort_of p) query.args) (sort_of p query.result))
+values-with p begins reads view n query a g l =
+    let i = length-filter (λ (query : QueryDecl). is_get query.kind) (take n p.queries) in
+    let place = view_place p view * gets p.queries + gets (take n p.queries) in
+    ap (slice_get (fn_decls p begins ++ val_decls_at p reads)) (seven (view_place p view * gets p.queries) (gets (take n p.queries)))
+    ∙ (ap (λ ds. slice_get ds place) (blocks-join p (3 + (begins + begins)) reads (3 + (begins + begins) + reads) refl)
+    ∙ in-blocks p (3 + (begins + begins) + reads) (view_place p view) (gets (take n p.queries)) (val_decl p query) l
+    (ap (slice_get (val_decls p)) (sym i) ∙ get-mapped (val_decl p) (getting p.queries) (length (getting (take n p.queries))) query (filtered p.queries n query a g)))
 
 pub values-stand : (p : Prog) (begins view n : ℕ) (query : QueryDecl) → slice_get p.queries n ≡ Some query → is_get query.kind ≡ true → view_place p view < 3 + (begins + begins)
     → slice_get (fn_decls p begins) (val_fn p view n) ≡ Some (fn_of (map (sort_of p) query.args) (sort_of p query.result))

@@ -115,6 +115,11 @@ seen_rel p begin = 9 + (3 * ids p.types.atoms + (begin + begin))
 abbrev pub read_rel : Prog → ℕ → ℕ
 read_rel p begin = 9 + (3 * ids p.types.atoms + suc (begin + begin))
 
+-- what is read after a further call of its own: the reading sets that a path adds, the first is number 0, behind those of so
+-- many begins
+abbrev pub added_rel : Prog → ℕ → ℕ → ℕ
+added_rel p begins read = 9 + (3 * ids p.types.atoms + (begins + begins + read))
+
 -- # Functions
 
 -- the operation of a call

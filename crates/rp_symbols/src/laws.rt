@@ -10,9 +10,9 @@ ghost use Rattle.rp_lang.specs.Programs.{Prog, Proc};
 ghost use Rattle.rp_logic.specs.declared.sort.Sort.TheVariants.{Plain, Int, Str, Datatype};
 ghost use Rattle.rp_symbols.specs.Numbers.{call_sort, inv_sort, atom_sort, int_sort, str_sort, data_sort, op_sort, info_sort, outcome_sort};
 ghost use Rattle.rp_symbols.specs.Numbers.{op_con, info_con, unreturned_con, outcome_con};
-ghost use Rattle.rp_symbols.specs.Numbers.{old_rel, new_rel, was_rel, there_rel, before_rel, stamp_rel, same_rel, snapshot_rel, part_rel, id_rel, seen_rel, read_rel};
+ghost use Rattle.rp_symbols.specs.Numbers.{old_rel, new_rel, was_rel, there_rel, before_rel, stamp_rel, same_rel, snapshot_rel, part_rel, id_rel, seen_rel, read_rel, added_rel};
 ghost use Rattle.rp_symbols.specs.Numbers.{op_fn, origin_fn, info_fn, old_result_fn, new_result_fn, add_fn, sub_fn, view_place, val_fn};
-ghost use Rattle.rp_symbols.specs.Signatures.{sort_of, from, con_of, result_list, fn_of, sig_of};
+ghost use Rattle.rp_symbols.specs.Signatures.{sort_of, from, con_of, result_list, fn_of, sig_of, with_path};
 
 /// Each sort stands at its number, and the datatypes of records have their constructors.
 pub fn sorts_stand_at_their_numbers()
@@ -79,4 +79,15 @@ pub fn functions_stand_at_their_numbers()
     ensures values { (p : Prog) (views view n : ℕ) (query : QueryDecl) → slice_get p.queries n ≡ Some query → is_get query.kind ≡ true
         → view_place p view < 3 + (views - 1 + (views - 1))
         → slice_get (sig_of p views).fns (val_fn p view n) ≡ Some (fn_of (map (sort_of p) query.args) (sort_of p query.result)) }
+{}
+
+/// What a path adds stands behind: its reading sets, and at each view and reading set the functions of queries.
+pub fn what_a_path_adds_stands()
+    ensures sets { (p : Prog) (views reads j : ℕ) (consts : List ℕ) → j < reads
+        → slice_get (with_path p consts reads (sig_of p views)).rels (added_rel p (views - 1) j) ≡ Some (call_sort ∷ []) }
+    ensures values { (p : Prog) (views reads view n : ℕ) (consts : List ℕ) (query : QueryDecl) → slice_get p.queries n ≡ Some query
+        → is_get query.kind ≡ true → view_place p view < 3 + (views - 1 + (views - 1)) + reads
+        → slice_get (with_path p consts reads (sig_of p views)).fns (val_fn p view n) ≡ Some (fn_of (map (sort_of p) query.args) (sort_of p query.result)) }
+    ensures places { (p : Prog) (begins k : ℕ) → (view_place p (seen_rel p k) ≡ 3 + (k + k)) × (view_place p (read_rel p k) ≡ 4 + (k + k))
+        × (view_place p (added_rel p begins k) ≡ 3 + (begins + begins + k)) }
 {}

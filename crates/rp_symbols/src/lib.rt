@@ -6,5 +6,5 @@ pub mod rows;
 
 pub use laws::{
     constructors_stand_at_their_numbers, functions_stand_at_their_numbers,
-    relations_stand_at_their_numbers, sorts_stand_at_their_numbers,
+    relations_stand_at_their_numbers, sorts_stand_at_their_numbers, what_a_path_adds_stands,
 };

@@ -42,11 +42,23 @@ matches ops (Root r) call = on_root ops r call
 matches ops (AtField n w) call = matches ops w call && goes_to_field ops (depth (terms w)) n call
 matches ops (AtKey winner b w) call = matches ops w call && goes_to_key ops (depth (terms w)) b.val call
 
--- each key has the element of its value
+-- so it is with each key on the way, with each of a list
+abbrev pub EachKey : (Both → Type 0) → Way Both → Type 0
+EachKey P (Root r) = Unit {0}
+EachKey P (AtField n w) = EachKey P w
+EachKey P (AtKey winner b w) = EachKey P w × P b
+
+abbrev pub EachBoth : (Both → Type 0) → List Both → Type 0
+EachBoth P [] = Unit {0}
+EachBoth P (b ∷ bs) = P b × EachBoth P bs
+
+-- the term has the element of the value
+abbrev pub Read : Meaning → List Elem → Both → Type 0
+Read M base b = value M base b.term ≡ elem_of b.val
+
+-- each key on the way is read so
 abbrev pub KeysRead : Meaning → List Elem → Way Both → Type 0
-KeysRead M base (Root r) = Unit {0}
-KeysRead M base (AtField n w) = KeysRead M base w
-KeysRead M base (AtKey winner b w) = KeysRead M base w × (value M base b.term ≡ elem_of b.val)
+KeysRead M base w = EachKey (Read M base) w
 
 -- the value may stand there, right behind the keys
 pub record FitsAt (p : Prog) (count : ℕ) (decl : OpDecl) (place : ℕ) (k : Val) : Type 0 where

@@ -1,0 +1,14 @@
+pub mod ArmCons
+pub mod AxiomLaw
+pub mod AxiomPieces
+pub mod AxiomSorts
+pub mod FormulaSorts
+pub mod KeptLists
+pub mod KeptSignature
+pub mod Pieces
+pub mod PlaceSorts
+pub mod QueryLaw
+pub mod QuerySorts
+pub mod RegisterSorts
+pub mod SignatureLaws
+pub mod TermSorts
