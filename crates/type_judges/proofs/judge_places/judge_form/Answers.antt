@@ -10,7 +10,7 @@ pub returns : goal.returns
 returns c = λ later counted.
     let want = want_view c.args.want in
     let n = names_view c.args.scope.now.names.now in
-    let un = unsaid n (scope_view c.args.scope.now later) want (expr_view c.args.e.now) c.requires in
+    let un = unsaid n (scope_view c.args.scope.now later) want (expr_view c.args.e.now) c.requires.form in
     passed 3 (passed 4
     (noted 9 c.note.ensures (c.in_ok-rule_9.ensures want later)
     (noted 10 c.note-best-8.ensures (c.in_ok-rule_10.ensures later)
