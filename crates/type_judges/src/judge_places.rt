@@ -38,9 +38,9 @@ fn judge_form(
     e: &ExprNode,
     plain: bool,
 ) -> Result<Option<Fault>, Memory>
-    requires form { is_access (tree.expr_view e.now) ≡ false }
-    requires told { plain ≡ is_plain (names_view scope.now.names.now) scope.now.vars.now (tree.expr_view e.now) }
+    requires { is_access (tree.expr_view e.now) ≡ false }
     ensures { (later : List Name) → IsCounted scope.now.later.now later
+        → plain ≡ is_plain (names_view scope.now.names.now) scope.now.vars.now (tree.expr_view e.now)
         → IfOk result (λ fault. fault
         ≡ judged (names_view scope.now.names.now)
         (Site.place (scope_view scope.now later) (want_view want) (tree.expr_view e.now))) }
@@ -63,9 +63,9 @@ fn judge_access(
     access: &AccessNode,
     plain: bool,
 ) -> Result<Option<Fault>, Memory>
-    requires { (at : Span) → plain ≡ is_plain (names_view scope.now.names.now) scope.now.vars.now
-        (ExprTree.node at (FormTree.access (tree.access_view access.now))) }
     ensures { (at : Span) (later : List Name) → IsCounted scope.now.later.now later
+        → plain ≡ is_plain (names_view scope.now.names.now) scope.now.vars.now
+        (ExprTree.node at (FormTree.access (tree.access_view access.now)))
         → IfOk result (λ fault. fault
         ≡ judged (names_view scope.now.names.now)
         (Site.place (scope_view scope.now later) (want_view want)
@@ -106,8 +106,8 @@ pub fn judge_place(
     e: &ExprNode,
     plain: bool,
 ) -> Result<Option<Fault>, Memory>
-    requires { plain ≡ is_plain (names_view scope.now.names.now) scope.now.vars.now (tree.expr_view e.now) }
     ensures { (later : List Name) → IsCounted scope.now.later.now later
+        → plain ≡ is_plain (names_view scope.now.names.now) scope.now.vars.now (tree.expr_view e.now)
         → IfOk result (λ fault. fault
         ≡ judged (names_view scope.now.names.now)
         (Site.place (scope_view scope.now later) (want_view want) (tree.expr_view e.now))) }

@@ -164,8 +164,9 @@ pub(crate) fn rule_11(
     e: &ExprNode,
     plain: bool,
 ) -> Result<Option<Span>, Memory>
-    requires { plain ≡ is_plain (names_view scope.now.names.now) scope.now.vars.now (tree.expr_view e.now) }
-    ensures { (later : List Name) → IfOk result (λ at. at
+    ensures { (later : List Name)
+        → plain ≡ is_plain (names_view scope.now.names.now) scope.now.vars.now (tree.expr_view e.now)
+        → IfOk result (λ at. at
         ≡ spec.rule11 (names_view scope.now.names.now)
         (Site.place (scope_view scope.now later) (want_view want) (tree.expr_view e.now))) }
 {

@@ -19,7 +19,7 @@ use Rattle.type_judges.proofs.Noted.{noted}
 use Rattle.type_judges.proofs.judge_places.judge_access.Goals as goal
 
 pub returns : goal.returns
-returns c = λ at later counted.
+returns c = λ at later counted told.
     let n = names_view c.args.scope.now.names.now in
     let sc = scope_view c.args.scope.now later in
     let w = want_view c.args.want in
@@ -52,7 +52,7 @@ returns c = λ at later counted.
     ∙ ap₂ (λ b d. b || not d) (c.breaks-4.ensures ∙ ap (λ b. w.rule == 14 && b) misfits) fit) in
     let by13 = c.when-7.ensures ∙ ap (λ b. spec.when (not b) x_at) stands in
     let by12 = c.misfit_in.ensures n ∙ ap spec.misfit_in is in
-    let plain = c.requires at ∙ ap (λ t. is_plain n sc.vars (ExprTree.node at (ExprForm.access t))) parts in
+    let plain = told ∙ ap (λ t. is_plain n sc.vars (ExprTree.node at (ExprForm.access t))) parts in
     let by11 = c.when-8.ensures ∙ ap (λ b. spec.when (w.plain && not b) x_at) plain in
     let wrong = c.breaks-5.ensures ∙ ap (λ b. w.rule == 10 && b) misfits ∙ bare (spec.is_wrong 10 n sc w e) in
     let by10 = c.when-9.ensures ∙ ap (λ b. spec.when b x_at) wrong in
