@@ -11,8 +11,8 @@ pub invariant_of-self-then-is_err : goal.invariant_of-self-then-is_err
 invariant_of-self-then-is_err c =
     let names = c.args.self.now in
     let item : Item = record { name = c.as_slice-name.result; decl = c.args.decl; what = c.args.what } in
-    let back : c.pop.new.self ≡ names.items =
-    pushed_back names.items c.push_named.new.items c.pop.new.self item c.pop.result c.in_ok-push_named.ensures.ok c.pop.ensures in
+    let back : c.pop-gone.new.self ≡ names.items =
+    pushed_back names.items c.push_named.new.items c.pop-gone.new.self item c.pop-gone.result c.in_ok-push_named.ensures.ok c.pop-gone.ensures in
     let taken : c.take.new.taken ≡ names.taken = failed c.take.result c.if-is_err.ensures.value c.take.ensures.err in
     let text : Item → List ℕ = λ e. e.name.now in
     record {
