@@ -1,14 +1,12 @@
-use Rattle.std.proofs.Common.{ℕ, ◌++◌, ap, map, sym, ◌∙◌, length, append-nil}
-use Rattle.std.proofs.lemmas.List.{length-map}
+use Rattle.std.proofs.Common.{ℕ, ◌++◌, ap, sym, ◌∙◌, length, append-nil}
 use Rattle.rp_grammar.specs.Trees.{DeclTree}
-use Rattle.rp_ast.specs.View.{con_view, crdt_view, decl_form_view, ident_view}
+use Rattle.rp_ast.specs.View.{crdt_view, decl_form_view}
 use Rattle.rp_span.specs.declared.Span.{Span}
 use Rattle.rp_ast.specs.declared.decl.DeclForm as code_decl
 use Rattle.rp_ast.specs.declared.decl.DeclForm.TheVariants as form
 use Rattle.type_rules.specs.Names.{Names, types_in, entries_in}
 use Rattle.text_names.specs.Declarations.{names_view}
 use Rattle.text_names.specs.Parts.{crdt_in}
-use Rattle.text_names.specs.Views.{type_item_view}
 use Rattle.text_names.proofs.Placed.{on_ok}
 use Rattle.text_names.proofs.names.TextNames.add_decl.Goals as goal
 

@@ -1,4 +1,4 @@
-use Rattle.std.proofs.Common.{◌≡◌, ℕ, List, length, map, refl, sym, ap, ◌∙◌, subst}
+use Rattle.std.proofs.Common.{◌≡◌, ℕ, List, length, refl, sym, ap, ◌∙◌, subst}
 use Rattle.type_tables.specs.Tables.{number_in, without}
 use Rattle.type_tables.proofs.Seen.{not_failed}
 use Rattle.text_names.specs.declared.declared.Item.{Item}
