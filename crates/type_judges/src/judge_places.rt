@@ -32,12 +32,7 @@ use type_tables::{note, when};
 use type_terms::{access_by, args_fit, is_nothing, meaning_of};
 
 /// The first fault of the place of an expression that isn't an access.
-fn judge_form(
-    scope: &Scope,
-    want: Want,
-    e: &ExprNode,
-    plain: bool,
-) -> Result<Option<Fault>, Memory>
+fn judge_form(scope: &Scope, want: Want, e: &ExprNode, plain: bool) -> Result<Option<Fault>, Memory>
     requires { is_access (tree.expr_view e.now) ≡ false }
     ensures { (later : List Name) → IsCounted scope.now.later.now later
         → plain ≡ is_plain (names_view scope.now.names.now) scope.now.vars.now (tree.expr_view e.now)

@@ -34,7 +34,11 @@ pub fn is_plain_access(names: &TextNames, what: Access) -> bool
 /// Whether an expression is a plain term.
 #[cycle(plain)]
 #[tactic(auto, using(rp_ast::proofs::ExprViews::expr_views))]
-pub(crate) fn is_plain<'a>(names: &TextNames<'a>, vars: &Vars<'a>, e: &ExprNode) -> Result<bool, Memory>
+pub(crate) fn is_plain<'a>(
+    names: &TextNames<'a>,
+    vars: &Vars<'a>,
+    e: &ExprNode,
+) -> Result<bool, Memory>
     ensures { IfOk result (λ plain. plain
         ≡ spec.is_plain (names_view names.now) vars.now (tree.expr_view e.now)) }
 {
