@@ -15,6 +15,7 @@ use Rattle.type_rules.specs.Paths.{Way}
 use Rattle.type_rules.specs.Faults.{sooner}
 use Rattle.type_faults.specs.declared.walk.Walk.{Walk}
 use Rattle.type_rules.specs.Accesses.{Var}
+use Rattle.type_rules.specs.Typing.{is_plain_form, is_plain_step}
 use Rattle.type_faults.specs.Walks.{Stand, Walks, names_at, scope_at, stand_of}
 use Rattle.type_faults.proofs.Lists.{next_in, other_drop}
 use Rattle.type_faults.proofs.Walked.{both, recast}
@@ -36,6 +37,20 @@ pub formed : {later : List Name} {a b : Walk} {f : Option Fault} (w : Want) (at 
 formed {later} {a} {b} {f} w at e walks =
     subst (λ form. Walks later a b f (λ p. form_sites p.names (scope_at later p) w at form) (λ p. p.sight)) (sym e) walks
 
+-- The same with whether it is a plain term.
+pub formed_as : {later : List Name} {a b : Walk} {f : Option Fault} {plain : Bool} (w : Want) (at : Span) {x y : ExprForm} → x ≡ y
+    → Walks later a b f (λ p. form_sites p.names (scope_at later p) w at y) (λ p. p.sight) → plain ≡ is_plain_form (names_at a) a.vars y
+    → Walks later a b f (λ p. form_sites p.names (scope_at later p) w at x) (λ p. p.sight) × (plain ≡ is_plain_form (names_at a) a.vars x)
+formed_as {a = a} w at e walks told = (formed w at e walks, told ∙ ap (is_plain_form (names_at a) a.vars) (sym e))
+
+-- The same where the fault and this are told in other words.
+pub formed_told : {later : List Name} {a b : Walk} {f g : Option Fault} {plain own : Bool} (w : Want) (at : Span) {x y : ExprForm} → x ≡ y
+    → Walks later a b f (λ p. form_sites p.names (scope_at later p) w at y) (λ p. p.sight) → g ≡ f → plain ≡ own
+    → own ≡ is_plain_form (names_at a) a.vars y
+    → Walks later a b g (λ p. form_sites p.names (scope_at later p) w at x) (λ p. p.sight) × (plain ≡ is_plain_form (names_at a) a.vars x)
+formed_told {later} {a} {b} w at {x} {y} e walks same is told =
+    formed_as w at e (subst (λ f. Walks later a b f (λ p. form_sites p.names (scope_at later p) w at y) (λ p. p.sight)) (sym same) walks) (is ∙ told)
+
 -- # Arguments
 
 pub arg_next : (n : Names) (sc : Scope) (plain : Bool) (kinds : List Kind) (es : List ExprNode) (i : ℕ) (e : ExprNode) (w : Want) (kind : Kind)
@@ -56,6 +71,16 @@ pub step_formed : {later : List Name} {a b : Walk} {f : Option Fault} (way : Sta
     → Walks later a b f (λ p. key_sites p.names (scope_at later p) (way p) x) (λ p. p.sight)
 step_formed {later} {a} {b} {f} way e walks =
     subst (λ s. Walks later a b f (λ p. key_sites p.names (scope_at later p) (way p) s) (λ p. p.sight)) (sym e) walks
+
+-- The same where the fault and whether it is a plain term are told in other words.
+pub step_told : {later : List Name} {a b : Walk} {f g : Option Fault} {plain own : Bool} (way : Stand → Way) {x y : StepTree} → x ≡ y
+    → Walks later a b f (λ p. key_sites p.names (scope_at later p) (way p) y) (λ p. p.sight) → g ≡ f → plain ≡ own
+    → own ≡ is_plain_step (names_at a) a.vars y
+    → Walks later a b g (λ p. key_sites p.names (scope_at later p) (way p) x) (λ p. p.sight) × (plain ≡ is_plain_step (names_at a) a.vars x)
+step_told {later} {a} {b} way {x} {y} e walks same is told = (
+  step_formed way e (subst (λ f. Walks later a b f (λ p. key_sites p.names (scope_at later p) (way p) y) (λ p. p.sight)) (sym same) walks),
+  is ∙ told ∙ ap (is_plain_step (names_at a) a.vars) (sym e),
+)
 
 -- # Two sides
 

@@ -1,37 +1,35 @@
 //! The first faults of expressions.
 
-ghost use Rattle.std.specs.Prelude.{◌≡◌, ◌∷◌, ◌++◌, [], codes, false, true, IfOk, List};
+ghost use Rattle.std.specs.Prelude.{◌≡◌, ◌∷◌, ◌++◌, ◌&&◌, [], codes, false, true, IfOk, List};
 ghost use Rattle.std.specs.Option.{option_map};
 ghost use Rattle.rp_ast.specs.View as tree;
-ghost use Rattle.rp_ast.specs.declared.expr.AccessStep.TheViews.{out-AccessNode};
 ghost use Rattle.type_rules.specs.declared.kind.Kind.{Kind as TheKind};
 ghost use Rattle.type_rules.specs.Names.{Name};
 ghost use Rattle.type_rules.specs.Sites.{Site};
+ghost use Rattle.rp_grammar.specs.Trees.{ExprForm as FormTree};
+ghost use Rattle.type_rules.specs.Typing.{is_plain, is_plain_form};
 ghost use Rattle.type_rules.specs.Starts.{word_at as spec_word_at};
-ghost use Rattle.type_rules.specs.Accesses.{args_of};
 ghost use Rattle.type_rules.specs.Flow.{in_pattern};
 ghost use Rattle.type_rules.specs.Matches.{cases_of as spec_cases_of};
 ghost use Rattle.type_rules.specs.ExprSites as spec;
 ghost use Rattle.type_tables.specs.Counts.{IsCounted};
-ghost use Rattle.type_terms.specs.Views.{IsTableOf, access_view, cases_view, way_view};
+ghost use Rattle.type_terms.specs.Views.{IsTableOf, cases_view};
 ghost use Rattle.type_judges.specs.Places.{want_view};
 ghost use Rattle.type_faults.specs.Walks.{Follows, Walks, names_at, scope_at, seeing, stand_of};
 
 use crate::patterns::{add_arm, arm_table};
+use crate::told::{Term, Told, both, claim, nothing};
 use crate::walk::{Found, Walk};
-use rp_ast::{AccessNode, AccessStep, CallWord, CompareOp, ExprArm, ExprForm, ExprNode, Param};
+use rp_ast::{CallWord, CompareOp, ExprArm, ExprForm, ExprNode, Param};
 use rp_span::Span;
 use rp_value::Memory;
 use type_judges::{
     Want, argument, bool_operand, bool_whole, held, int_operand, judge_arms, judge_place,
-    judge_statement, judge_written, left_want, matched, right_want, word_arg,
+    judge_written, left_want, matched, right_want, word_arg,
 };
 use type_rules::{Fault, Kind, Role};
-use type_tables::{NameTable, sooner};
-use type_terms::{
-    Access, Cases, Way, access_of, arg_kind, cases_of, key_kind, stepped, type_of, way_from,
-    word_at,
-};
+use type_tables::{NameTable, is_plain_word, sooner};
+use type_terms::{Cases, cases_of, type_of, word_at};
 
 /// What the sides of a comparison are asked.
 #[derive(Clone, Copy)]
@@ -41,17 +39,6 @@ struct Wants {
 }
 
 impl<'n, 'a> Walk<'n, 'a> {
-    /// The first fault of an expression itself.
-    fn place(&mut self, want: Want, e: &ExprNode) -> Found
-        ensures { (later : List Name) → IsCounted self.old.later later
-            → IfOk result (λ fault. Walks later self.old self.new fault
-            (λ p. Site.place (scope_at later p) (want_view want) (tree.expr_view e.now) ∷ []) (λ p. p.sight)) }
-    {
-        let here = judge_place(&self.scope(), want, e)?;
-        self.mark_expr(e)?;
-        Ok(here)
-    }
-
     /// What the sides of a comparison are asked.
     fn side_wants(&self, op: CompareOp, left: &ExprNode, right: &ExprNode) -> Result<Wants, Memory>
         ensures left { IfOk result (λ wants. want_view wants.left ≡ spec.left_want (names_at self.now) self.now.vars op
@@ -91,6 +78,23 @@ impl<'n, 'a> Walk<'n, 'a> {
         Ok(judge_arms(word, &all, cases))
     }
 
+    /// The first fault of an expression, and whether it is a plain term.
+    #[cycle(exprs)]
+    pub(crate) fn term(&mut self, want: Want, e: &'a ExprNode) -> Term
+        ensures { (later : List Name) → IsCounted self.old.later later
+            → IfOk result (λ told. Walks later self.old self.new told.fault
+            (λ p. spec.expr_sites p.names (scope_at later p) (want_view want) (tree.expr_view e.now)) (λ p. p.sight)
+            × (told.plain ≡ is_plain (names_at self.old) self.old.vars (tree.expr_view e.now))) }
+    {
+        self.mark_expr(e)?;
+        let below = self.below(want, e)?;
+        let here = judge_place(&self.scope(), want, e, below.plain)?;
+        Ok(Told {
+            fault: sooner(here, below.fault),
+            plain: below.plain,
+        })
+    }
+
     /// The first fault of an expression.
     #[cycle(exprs)]
     pub(crate) fn expr(&mut self, want: Want, e: &'a ExprNode) -> Found
@@ -98,9 +102,8 @@ impl<'n, 'a> Walk<'n, 'a> {
             → IfOk result (λ fault. Walks later self.old self.new fault
             (λ p. spec.expr_sites p.names (scope_at later p) (want_view want) (tree.expr_view e.now)) (λ p. p.sight)) }
     {
-        let here = self.place(want, e)?;
-        let below = self.below(want, e)?;
-        Ok(sooner(here, below))
+        let told = self.term(want, e)?;
+        Ok(told.fault)
     }
 
     /// That of an expression which stands behind other places.
@@ -114,49 +117,80 @@ impl<'n, 'a> Walk<'n, 'a> {
         Ok(sooner(best, own))
     }
 
+    /// The sides of a sum or a difference.
+    #[cycle(exprs)]
+    fn sides(&mut self, left: &'a ExprNode, right: &'a ExprNode) -> Term
+        ensures { (later : List Name) → IsCounted self.old.later later
+            → IfOk result (λ told. Walks later self.old self.new told.fault
+            (λ p. spec.expr_sites p.names (scope_at later p) spec.int_operand (tree.expr_view left.now)
+            ++ spec.expr_sites p.names (scope_at later p) spec.int_operand (tree.expr_view right.now)) (λ p. p.sight)
+            × (told.plain ≡ (is_plain (names_at self.old) self.old.vars (tree.expr_view left.now)
+            && is_plain (names_at self.old) self.old.vars (tree.expr_view right.now)))) }
+    {
+        let first = self.term(int_operand(), left)?;
+        let last = self.term(int_operand(), right)?;
+        Ok(Told {
+            fault: sooner(first.fault, last.fault),
+            plain: both(first.plain, last.plain),
+        })
+    }
+
     /// The first fault below the expression itself.
     #[cycle(exprs)]
-    fn below(&mut self, want: Want, e: &'a ExprNode) -> Found
+    fn below(&mut self, want: Want, e: &'a ExprNode) -> Term
         ensures { (later : List Name) → IsCounted self.old.later later
-            → IfOk result (λ fault. Walks later self.old self.new fault
+            → IfOk result (λ told. Walks later self.old self.new told.fault
             (λ p. spec.form_sites p.names (scope_at later p) (want_view want) e.now.span (tree.expr_form_view e.now.what))
-            (λ p. p.sight)) }
+            (λ p. p.sight)
+            × (told.plain ≡ is_plain_form (names_at self.old) self.old.vars (tree.expr_form_view e.now.what))) }
     {
         match &e.what {
             ExprForm::Implies(left, right) => {
                 let first = self.expr(bool_operand(), left.get())?;
-                self.behind(first, bool_operand(), right.get())
+                let last = self.behind(first, bool_operand(), right.get())?;
+                Ok(claim(last))
             }
-            ExprForm::Or(operands) => self.operands(operands.as_slice()),
-            ExprForm::And(operands) => self.operands(operands.as_slice()),
-            ExprForm::Not(operand) => self.expr(bool_operand(), operand.get()),
-            ExprForm::Forall(param, body) => self.quantified(body.get(), param.get()),
-            ExprForm::Exists(param, body) => self.quantified(body.get(), param.get()),
+            ExprForm::Or(operands) => {
+                let fault = self.operands(operands.as_slice())?;
+                Ok(claim(fault))
+            }
+            ExprForm::And(operands) => {
+                let fault = self.operands(operands.as_slice())?;
+                Ok(claim(fault))
+            }
+            ExprForm::Not(operand) => {
+                let fault = self.expr(bool_operand(), operand.get())?;
+                Ok(claim(fault))
+            }
+            ExprForm::Forall(param, body) => {
+                let fault = self.quantified(body.get(), param.get())?;
+                Ok(claim(fault))
+            }
+            ExprForm::Exists(param, body) => {
+                let fault = self.quantified(body.get(), param.get())?;
+                Ok(claim(fault))
+            }
             ExprForm::Compare(op, left, right) => {
                 let wants = self.side_wants(*op, left.get(), right.get())?;
                 let first = self.expr(wants.left, left.get())?;
-                self.behind(first, wants.right, right.get())
+                let last = self.behind(first, wants.right, right.get())?;
+                Ok(claim(last))
             }
-            ExprForm::Plus(left, right) => {
-                let first = self.expr(int_operand(), left.get())?;
-                self.behind(first, int_operand(), right.get())
-            }
-            ExprForm::Minus(left, right) => {
-                let first = self.expr(int_operand(), left.get())?;
-                self.behind(first, int_operand(), right.get())
-            }
+            ExprForm::Plus(left, right) => self.sides(left.get(), right.get()),
+            ExprForm::Minus(left, right) => self.sides(left.get(), right.get()),
             ExprForm::Int(_)
             | ExprForm::Str(_)
             | ExprForm::Truth(_)
             | ExprForm::NoneWord
             | ExprForm::Unreturned
-            | ExprForm::Tx => Ok(None),
-            ExprForm::SomeOf(inside) => self.expr(held(want.asked), inside.get()),
+            | ExprForm::Tx => Ok(nothing()),
+            ExprForm::SomeOf(inside) => self.term(held(want.asked), inside.get()),
             ExprForm::Call(word, args) => self.word(*word, args.as_slice()),
             ExprForm::Match(term, arms) => {
                 let kind = type_of(self.names, &self.vars, None, term.get())?;
                 let first = self.expr(matched(), term.get())?;
-                self.arms(first, e.span, kind, arms.as_slice())
+                let fault = self.arms(first, e.span, kind, arms.as_slice())?;
+                Ok(claim(fault))
             }
             ExprForm::Access(access) => self.access(access.get()),
         }
@@ -194,18 +228,22 @@ impl<'n, 'a> Walk<'n, 'a> {
 
     /// The arguments of a word. All are asked the same type, and one too many none.
     #[cycle(exprs)]
-    fn word(&mut self, word: CallWord, args: &'a [ExprNode]) -> Found
+    fn word(&mut self, word: CallWord, args: &'a [ExprNode]) -> Term
         ensures { (later : List Name) → IsCounted self.old.later later
-            → IfOk result (λ fault. Walks later self.old self.new fault
+            → IfOk result (λ told. Walks later self.old self.new told.fault
             (λ p. spec.arg_sites p.names (scope_at later p) false (spec.word_args p.names p.sight.vars word
-            (tree.exprs_view args.now)) (tree.exprs_view args.now)) (λ p. p.sight)) }
+            (tree.exprs_view args.now)) (tree.exprs_view args.now)) (λ p. p.sight)
+            × (told.plain ≡ is_plain_form (names_at self.old) self.old.vars (FormTree.call word (tree.exprs_view args.now)))) }
     {
         let mut best = None;
+        let mut plain = is_plain_word(word);
         for (place, arg) in args.iter().enumerate() {
             let kind = word_arg(self.names, &self.vars, word, args, place)?;
-            best = sooner(best, self.expr(argument(false, kind), arg)?);
+            let told = self.term(argument(false, kind), arg)?;
+            best = sooner(best, told.fault);
+            plain = both(plain, told.plain);
         }
-        Ok(best)
+        Ok(Told { fault: best, plain })
     }
 
     /// The word `match` and the arms on a term of this type, behind the term.
@@ -252,97 +290,6 @@ impl<'n, 'a> Walk<'n, 'a> {
         let here = self.pattern(cases, before, &arm.pattern)?;
         let below = self.expr(bool_whole(), &arm.body)?;
         self.back_to(len);
-        Ok(sooner(here, below))
-    }
-
-    /// The keys and the arguments of an access.
-    #[cycle(exprs)]
-    #[tactic(auto, using(rp_ast::proofs::ExprViews::expr_views))]
-    pub(crate) fn access(&mut self, access: &'a AccessNode) -> Found
-        ensures { (later : List Name) → IsCounted self.old.later later
-            → IfOk result (λ fault. Walks later self.old self.new fault
-            (λ p. spec.access_sites p.names (scope_at later p) (tree.access_view access.now)) (λ p. p.sight)) }
-    {
-        let what = access_of(self.names, &self.vars, access)?;
-        let way = way_from(self.names, &self.vars, &access.root);
-        let keys = self.keys(access.steps.as_slice(), way)?;
-        let args = self.given(access, what)?;
-        Ok(sooner(keys, args))
-    }
-
-    /// The keys of the steps that go on from there.
-    #[cycle(exprs)]
-    fn keys(&mut self, steps: &'a [AccessStep], way: Way<'a>) -> Found
-        ensures { (later : List Name) → IsCounted self.old.later later
-            → IfOk result (λ fault. Walks later self.old self.new fault
-            (λ p. spec.step_sites p.names (scope_at later p) (way_view p.names way.entry) (tree.steps_view steps.now))
-            (λ p. p.sight)) }
-    {
-        let mut way = way;
-        let mut best = None;
-        for step in steps {
-            best = sooner(best, self.key(step, way)?);
-            way = stepped(way, step)?;
-        }
-        Ok(best)
-    }
-
-    #[cycle(exprs)]
-    fn key(&mut self, step: &'a AccessStep, way: Way<'a>) -> Found
-        ensures { (later : List Name) → IsCounted self.old.later later
-            → IfOk result (λ fault. Walks later self.old self.new fault
-            (λ p. spec.key_sites p.names (scope_at later p) (way_view p.names way.entry) (tree.step_view step.now))
-            (λ p. p.sight)) }
-    {
-        match step {
-            AccessStep::Dot(_) => Ok(None),
-            AccessStep::Returned(_) => Ok(None),
-            AccessStep::Key(key) => {
-                let kind = key_kind(self.names, way)?;
-                self.expr(argument(true, kind), key)
-            }
-        }
-    }
-
-    /// The arguments in the parentheses of an access, which is this.
-    #[cycle(exprs)]
-    fn given(&mut self, access: &'a AccessNode, what: Access<'a>) -> Found
-        ensures { (later : List Name) → IsCounted self.old.later later
-            → IfOk result (λ fault. Walks later self.old self.new fault
-            (λ p. spec.given_sites p.names (scope_at later p) (args_of p.names (access_view p.names what.entry))
-            (tree.args_view (out-AccessNode access.now).args)) (λ p. p.sight)) }
-    {
-        match &access.args {
-            Some(args) => self.args(args.as_slice(), what),
-            None => Ok(None),
-        }
-    }
-
-    #[cycle(exprs)]
-    fn args(&mut self, args: &'a [ExprNode], what: Access<'a>) -> Found
-        ensures { (later : List Name) → IsCounted self.old.later later
-            → IfOk result (λ fault. Walks later self.old self.new fault
-            (λ p. spec.arg_sites p.names (scope_at later p) true (args_of p.names (access_view p.names what.entry))
-            (tree.exprs_view args.now)) (λ p. p.sight)) }
-    {
-        let mut best = None;
-        for (place, arg) in args.iter().enumerate() {
-            let kind = arg_kind(self.names, what, place)?;
-            best = sooner(best, self.expr(argument(true, kind), arg)?);
-        }
-        Ok(best)
-    }
-
-    /// The first fault of an access that is a statement.
-    pub(crate) fn statement(&mut self, access: &'a AccessNode) -> Found
-        ensures { (later : List Name) → IsCounted self.old.later later
-            → IfOk result (λ fault. Walks later self.old self.new fault
-            (λ p. Site.statement (scope_at later p) (tree.access_view access.now)
-            ∷ spec.access_sites p.names (scope_at later p) (tree.access_view access.now)) (λ p. p.sight)) }
-    {
-        let here = judge_statement(&self.scope(), access)?;
-        self.mark_access(access)?;
-        let below = self.access(access)?;
         Ok(sooner(here, below))
     }
 }

@@ -1,6 +1,7 @@
 //! The first fault of a text: which of the type rules T01 to T24 is broken first, and where.
 #![tactic(auto)]
 
+mod accesses;
 mod blocks;
 mod decls;
 mod exprs;
@@ -11,6 +12,7 @@ mod patterns;
 mod simple;
 mod stmts;
 mod text;
+mod told;
 mod walk;
 
 pub use text::first_fault;

@@ -7,6 +7,7 @@ use type_rules::Fault;
 
 /// The first fault of an expression or of what stands in one, and whether it is made of plain terms. This is told
 /// from the inside out, since each place asks it of all that stands in it.
+#[derive(Clone, Copy)]
 pub(crate) struct Told {
     pub(crate) fault: Option<Fault>,
     pub(crate) plain: bool,

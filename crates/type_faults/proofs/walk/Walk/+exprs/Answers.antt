@@ -1,12 +1,14 @@
-use Rattle.std.proofs.Common.{◌≡◌, [], ◌∷◌, ◌++◌, ◌+◌, true, false, codes, None, take, drop, refl, sym, ap, ap₂, ◌∙◌, subst}
+use Rattle.std.proofs.Common.{◌≡◌, ◌&&◌, [], ◌∷◌, ◌++◌, ◌+◌, true, false, codes, None, take, drop, refl, sym, ap, ap₂, ◌∙◌, subst}
 use Rattle.std.specs.Option.{option_map}
 use Rattle.rp_grammar.specs.Trees.{ExprForm}
 use Rattle.rp_ast.specs.declared.expr.AccessStep.TheViews.{out-AccessNode}
 use Rattle.rp_ast.specs.View as tree
-use Rattle.rp_ast.proofs.ExprViews.{access_view-parts, expr_arm_view-parts, expr_form_view-Implies, expr_form_view-Or, expr_form_view-And, expr_form_view-Not, expr_form_view-Forall, expr_form_view-Exists, expr_form_view-Compare, expr_form_view-Plus, expr_form_view-Minus, expr_form_view-SomeOf, expr_form_view-Call, expr_form_view-Match, expr_form_view-Access, step_view-Dot, step_view-Returned, step_view-Key}
+use Rattle.rp_ast.proofs.ExprViews.{access_view-parts, expr_arm_view-parts, expr_view-parts, expr_form_view-Implies, expr_form_view-Or, expr_form_view-And, expr_form_view-Not, expr_form_view-Forall, expr_form_view-Exists, expr_form_view-Compare, expr_form_view-Plus, expr_form_view-Minus, expr_form_view-SomeOf, expr_form_view-Call, expr_form_view-Match, expr_form_view-Access, step_view-Dot, step_view-Returned, step_view-Key}
 use Rattle.type_rules.specs.Sites.{Site}
 use Rattle.type_rules.specs.Starts.{word_at}
-use Rattle.type_rules.specs.Typing.{type_of}
+use Rattle.type_rules.specs.Typing.{are_plain, are_plain_args, are_plain_steps, is_plain, is_plain_access, is_plain_form, is_plain_step, type_of}
+use Rattle.type_rules.specs.Faults.{judged}
+use Rattle.type_tables.specs.Counts.{IsCounted}
 use Rattle.type_rules.specs.Accesses.{access_of, args_of}
 use Rattle.type_rules.specs.Flow.{in_pattern}
 use Rattle.type_rules.specs.Matches.{cases_of, first_kind, pattern_kinds, pattern_name, pattern_vars}
@@ -16,17 +18,53 @@ use Rattle.type_tables.specs.Tables.{number_in, with_first}
 use Rattle.type_terms.specs.Views.{access_view, cases_view, way_view}
 use Rattle.type_judges.specs.Places.{want_view}
 use Rattle.text_names.proofs.Entries.{drop_past, if_ok}
-use Rattle.type_faults.specs.Walks.{Walks, names_at, scope_at, seeing, sight_of, stand_of}
+use Rattle.type_faults.specs.Walks.{Stand, Walks, names_at, scope_at, seeing, sight_of, stand_of}
 use Rattle.type_faults.proofs.Meeting.{ExprArmsWalked, expr_arm_name, expr_arm_own, expr_arms_ended, expr_arms_next, expr_arms_started}
-use Rattle.type_faults.proofs.Forms.{arg_next, formed, pair_formed, step_formed, whole_expr}
+use Rattle.type_faults.proofs.Forms.{arg_next, formed_as, formed_told, pair_formed, step_told, whole_expr}
+use Rattle.type_faults.proofs.Plain.{plain_ended, plain_next, steps_ended, steps_next}
 use Rattle.type_faults.proofs.Lists.{bound_gone, next_in, take_front}
-use Rattle.type_faults.proofs.Walked.{both, both_of, ended, follows, here, recast, same_names, started, stepped, then_turned}
+use Rattle.type_faults.proofs.Walked.{both, both_of, ended, follows, here, judged_at, placed, recast, same_names, started, stepped, then_turned}
 use Rattle.type_faults.proofs.walk.Walk.+exprs.Goals as goal
 
+pub term-returns : goal.term-returns
+term-returns t c = λ later counted.
+    let a = c.args.self.now in
+    let n = names_at a in
+    let e = tree.expr_view c.args.e.now in
+    let want = want_view c.args.want in
+    let marked = c.in_ok-mark_expr.ensures later in
+    let below = c.in_ok-below.ensures later (subst (λ entries. IsCounted entries later) (sym marked.later) counted) in
+    let stands = below.0.stands ∙ marked.stands in
+    let scope = c.scope.ensures.scope later in
+    let plain = below.1 ∙ ap (λ (p : Stand). is_plain_form p.names p.sight.vars (tree.expr_form_view c.args.e.now.what)) marked.stands
+    ∙ sym (ap (is_plain n a.vars) (expr_view-parts c.args.e.now)) in
+    let told = plain ∙ sym (ap₂ (λ m vs. is_plain m vs e) c.scope.ensures.names (ap (λ sc. sc.vars) scope)
+    ∙ ap (λ (p : Stand). is_plain p.names p.sight.vars e) stands) in
+    let listed = subst (λ entries. IsCounted entries later) (sym c.scope.ensures.later) below.0.counted in
+    let here = judged_at (λ sc. Site.place sc want e) c.scope.ensures.names scope (c.in_ok-here.ensures later listed told)
+    ∙ ap (λ (p : Stand). judged p.names (Site.place (scope_at later p) want e)) stands in (
+      whole_expr want c.args.e.now (placed {later = later} (λ p. Site.place (scope_at later p) want e) here marked refl counted)
+          below.0 c.sooner.ensures,
+      plain,
+    )
+
 pub expr-returns : goal.expr-returns
-expr-returns t c = λ later counted.
-    let own = c.in_ok-here.ensures later counted in
-    whole_expr (want_view c.args.want) c.args.e.now own (c.in_ok-below.ensures later own.counted) c.sooner.ensures
+expr-returns t c = λ later counted. (c.in_ok-told.ensures later counted).0
+
+pub sides-returns : goal.sides-returns
+sides-returns t c = λ later counted.
+    let a = c.args.self.now in
+    let n = names_at a in
+    let sc = scope_at later (stand_of a) in
+    let l = tree.expr_view c.args.left.now in
+    let r = tree.expr_view c.args.right.now in
+    let first = c.in_ok-first.ensures later counted in
+    let last = c.in_ok-last.ensures later first.0.counted in (
+      recast (λ p. spec.expr_sites p.names (scope_at later p) spec.int_operand l ++ spec.expr_sites p.names (scope_at later p) spec.int_operand r)
+          (λ p. p.sight) (both first.0 last.0 c.sooner.ensures)
+          (ap₂ (λ u v. spec.expr_sites n sc u l ++ spec.expr_sites n sc v r) c.int_operand.ensures c.int_operand-2.ensures) refl,
+      c.both.ensures ∙ ap₂ (λ x y. x && y) first.1 (last.1 ∙ ap (λ (p : Stand). is_plain p.names p.sight.vars r) first.0.stands),
+    )
 
 pub behind-returns : goal.behind-returns
 behind-returns t c = λ later counted. follows (c.in_ok-own.ensures later counted) c.sooner.ensures
@@ -58,7 +96,7 @@ operands-returns t c = λ later counted.
     (ap (λ l. spec.operand_sites n sc (tree.exprs_view l)) (drop_past es c.loop-operand.operand-index c.loop-operand-test.false))
 
 pub word-loop-place-init : goal.word-loop-place-init
-word-loop-place-init t c = λ later counted. started {later = later} counted
+word-loop-place-init t c = λ later counted. (started {later = later} counted, refl)
 
 pub word-loop-place-preserved : goal.word-loop-place-preserved
 word-loop-place-preserved t c = λ later counted.
@@ -69,12 +107,16 @@ word-loop-place-preserved t c = λ later counted.
     let i = c.loop-place.place in
     let kinds = spec.word_args n a.vars c.args.word (tree.exprs_view es) in
     let before = c.loop-place.invariant later counted in
+    let walks = before.0.walks in
+    let told = c.in_ok-told.ensures later walks.counted in
     let kind = c.in_ok-kind.ensures
-    ∙ ap (λ p. first_kind (drop i (spec.word_args p.names p.sight.vars c.args.word (tree.exprs_view es)))) before.walks.stands in
-    stepped (spec.arg_sites n sc false (drop (i + 1) kinds) (tree.exprs_view (drop (i + 1) es))) before
-    (c.in_ok-expr.ensures later before.walks.counted) c.sooner-best.ensures
-    (arg_next n sc false kinds es i c.index-args-place.result (want_view c.argument.result) c.in_ok-kind.kind
-    c.loop-place-test.true c.index-args-place.is kind c.argument.ensures)
+    ∙ ap (λ p. first_kind (drop i (spec.word_args p.names p.sight.vars c.args.word (tree.exprs_view es)))) walks.stands in (
+      stepped (spec.arg_sites n sc false (drop (i + 1) kinds) (tree.exprs_view (drop (i + 1) es))) before.0 told.0 c.sooner-best.ensures
+          (arg_next n sc false kinds es i c.index-args-place.result (want_view c.argument.result) c.in_ok-kind.kind
+          c.loop-place-test.true c.index-args-place.is kind c.argument.ensures),
+      plain_next n a.vars es i c.index-args-place.result c.loop-place-test.true c.index-args-place.is before.1
+          (told.1 ∙ ap (λ (p : Stand). is_plain p.names p.sight.vars (tree.expr_view c.index-args-place.result)) walks.stands) c.both.ensures,
+    )
 
 pub word-returns : goal.word-returns
 word-returns t c = λ later counted.
@@ -84,12 +126,15 @@ word-returns t c = λ later counted.
     let es = c.args.args.now in
     let i = c.loop-place.place in
     let kinds = spec.word_args n a.vars c.args.word (tree.exprs_view es) in
-    ended (λ p. spec.arg_sites p.names (scope_at later p) false (spec.word_args p.names p.sight.vars c.args.word (tree.exprs_view es)) (tree.exprs_view es))
-    (c.loop-place.invariant later counted)
-    (ap (λ l. spec.arg_sites n sc false (drop i kinds) (tree.exprs_view l)) (drop_past es i c.loop-place-test.false))
+    let all = c.loop-place.invariant later counted in
+    let past = drop_past es i c.loop-place-test.false in (
+      ended (λ p. spec.arg_sites p.names (scope_at later p) false (spec.word_args p.names p.sight.vars c.args.word (tree.exprs_view es)) (tree.exprs_view es))
+          all.0 (ap (λ l. spec.arg_sites n sc false (drop i kinds) (tree.exprs_view l)) past),
+      plain_ended n a.vars es i past all.1 ∙ ap (λ b. b && are_plain n a.vars (tree.exprs_view es)) c.is_plain_word-plain.ensures,
+    )
 
 pub args-loop-place-init : goal.args-loop-place-init
-args-loop-place-init t c = λ later counted. started {later = later} counted
+args-loop-place-init t c = λ later counted. (started {later = later} counted, refl)
 
 pub args-loop-place-preserved : goal.args-loop-place-preserved
 args-loop-place-preserved t c = λ later counted.
@@ -100,12 +145,16 @@ args-loop-place-preserved t c = λ later counted.
     let i = c.loop-place.place in
     let kinds = args_of n (access_view n c.args.what) in
     let before = c.loop-place.invariant later counted in
+    let walks = before.0.walks in
+    let told = c.in_ok-told.ensures later walks.counted in
     let kind = c.in_ok-kind.ensures
-    ∙ ap (λ n. first_kind (drop i (args_of n (access_view n c.args.what)))) (same_names before.walks) in
-    stepped (spec.arg_sites n sc true (drop (i + 1) kinds) (tree.exprs_view (drop (i + 1) es))) before
-    (c.in_ok-expr.ensures later before.walks.counted) c.sooner-best.ensures
-    (arg_next n sc true kinds es i c.index-args-place.result (want_view c.argument.result) c.in_ok-kind.kind
-    c.loop-place-test.true c.index-args-place.is kind c.argument.ensures)
+    ∙ ap (λ n. first_kind (drop i (args_of n (access_view n c.args.what)))) (same_names walks) in (
+      stepped (spec.arg_sites n sc true (drop (i + 1) kinds) (tree.exprs_view (drop (i + 1) es))) before.0 told.0 c.sooner-best.ensures
+          (arg_next n sc true kinds es i c.index-args-place.result (want_view c.argument.result) c.in_ok-kind.kind
+          c.loop-place-test.true c.index-args-place.is kind c.argument.ensures),
+      plain_next n a.vars es i c.index-args-place.result c.loop-place-test.true c.index-args-place.is before.1
+          (told.1 ∙ ap (λ (p : Stand). is_plain p.names p.sight.vars (tree.expr_view c.index-args-place.result)) walks.stands) c.both.ensures,
+    )
 
 pub args-returns : goal.args-returns
 args-returns t c = λ later counted.
@@ -115,60 +164,72 @@ args-returns t c = λ later counted.
     let es = c.args.args.now in
     let i = c.loop-place.place in
     let kinds = args_of n (access_view n c.args.what) in
-    ended (λ p. spec.arg_sites p.names (scope_at later p) true (args_of p.names (access_view p.names c.args.what)) (tree.exprs_view es))
-    (c.loop-place.invariant later counted)
-    (ap (λ l. spec.arg_sites n sc true (drop i kinds) (tree.exprs_view l)) (drop_past es i c.loop-place-test.false))
+    let all = c.loop-place.invariant later counted in
+    let past = drop_past es i c.loop-place-test.false in (
+      ended (λ p. spec.arg_sites p.names (scope_at later p) true (args_of p.names (access_view p.names c.args.what)) (tree.exprs_view es))
+          all.0 (ap (λ l. spec.arg_sites n sc true (drop i kinds) (tree.exprs_view l)) past),
+      plain_ended n a.vars es i past all.1,
+    )
 
 pub keys-loop-step-init : goal.keys-loop-step-init
-keys-loop-step-init t c = λ later counted. started {later = later} counted
+keys-loop-step-init t c = λ later counted. (started {later = later} counted, refl)
 
 pub keys-loop-step-preserved : goal.keys-loop-step-preserved
 keys-loop-step-preserved t c = λ later counted.
-    let n = names_at c.args.self.now in
-    let sc = scope_at later (stand_of c.args.self.now) in
+    let a = c.args.self.now in
+    let n = names_at a in
+    let sc = scope_at later (stand_of a) in
     let steps = c.args.steps.now in
     let i = c.loop-step.step-index in
     let s = c.step-item.result in
     let way = way_view n c.loop-step.way in
     let before = c.loop-step.invariant later counted in
-    let rest = tree.steps_view (drop (i + 1) steps) in
-    stepped (spec.step_sites n sc (way_view n c.in_ok-way.way) rest) before
-    (c.in_ok-key.ensures later before.walks.counted) c.sooner-best.ensures
-    (next_in (λ l. spec.step_sites n sc way (tree.steps_view l)) steps i s c.loop-step-test.true c.step-item.is
-    ∙ ap (λ next. spec.key_sites n sc way (tree.step_view s) ++ spec.step_sites n sc next rest) (sym (c.in_ok-way.ensures n)))
+    let walks = before.0.walks in
+    let told = c.in_ok-told.ensures later walks.counted in
+    let rest = tree.steps_view (drop (i + 1) steps) in (
+      stepped (spec.step_sites n sc (way_view n c.in_ok-way.way) rest) before.0 told.0 c.sooner-best.ensures
+          (next_in (λ l. spec.step_sites n sc way (tree.steps_view l)) steps i s c.loop-step-test.true c.step-item.is
+          ∙ ap (λ next. spec.key_sites n sc way (tree.step_view s) ++ spec.step_sites n sc next rest) (sym (c.in_ok-way.ensures n))),
+      steps_next n a.vars steps i s c.loop-step-test.true c.step-item.is before.1
+          (told.1 ∙ ap (λ (p : Stand). is_plain_step p.names p.sight.vars (tree.step_view s)) walks.stands) c.both.ensures,
+    )
 
 pub keys-returns : goal.keys-returns
 keys-returns t c = λ later counted.
-    let n = names_at c.args.self.now in
-    let sc = scope_at later (stand_of c.args.self.now) in
+    let a = c.args.self.now in
+    let n = names_at a in
+    let sc = scope_at later (stand_of a) in
     let steps = c.args.steps.now in
     let i = c.loop-step.step-index in
-    ended (λ p. spec.step_sites p.names (scope_at later p) (way_view p.names c.args.way) (tree.steps_view steps))
-    (c.loop-step.invariant later counted)
-    (ap (λ l. spec.step_sites n sc (way_view n c.loop-step.way) (tree.steps_view l)) (drop_past steps i c.loop-step-test.false))
+    let all = c.loop-step.invariant later counted in
+    let past = drop_past steps i c.loop-step-test.false in (
+      ended (λ p. spec.step_sites p.names (scope_at later p) (way_view p.names c.args.way) (tree.steps_view steps))
+          all.0 (ap (λ l. spec.step_sites n sc (way_view n c.loop-step.way) (tree.steps_view l)) past),
+      steps_ended n a.vars steps i past all.1,
+    )
 
 -- # Parts of an access
 
 pub key-returns-in-Dot : goal.key-returns-in-Dot
 key-returns-in-Dot t c = λ later counted.
-    step_formed (λ p. way_view p.names c.args.way) (ap tree.step_view c.in-Dot.is ∙ step_view-Dot c.in-Dot.field-0)
-    (here {later = later} (λ p. []) refl refl counted)
+    step_told (λ p. way_view p.names c.args.way) (ap tree.step_view c.in-Dot.is ∙ step_view-Dot c.in-Dot.field-0)
+    (here {later = later} (λ p. []) refl refl counted) c.nothing.ensures.fault c.nothing.ensures.plain refl
 
 pub key-returns-in-Returned : goal.key-returns-in-Returned
 key-returns-in-Returned t c = λ later counted.
-    step_formed (λ p. way_view p.names c.args.way) (ap tree.step_view c.in-Returned.is ∙ step_view-Returned c.in-Returned.field-0)
-    (here {later = later} (λ p. []) refl refl counted)
+    step_told (λ p. way_view p.names c.args.way) (ap tree.step_view c.in-Returned.is ∙ step_view-Returned c.in-Returned.field-0)
+    (here {later = later} (λ p. []) refl refl counted) c.nothing-in-Returned.ensures.fault c.nothing-in-Returned.ensures.plain refl
 
 pub key-returns-in_ok-kind-in-Key : goal.key-returns-in_ok-kind-in-Key
 key-returns-in_ok-kind-in-Key t c = λ later counted.
     let a = c.args.self.now in
     let e = tree.expr_view c.in-Key.key in
     let asked = c.argument.ensures ∙ ap (spec.argument true) c.in_ok-kind-in-Key.ensures in
-    if_ok c.expr.result
-    (λ f w. step_formed (λ p. way_view p.names c.args.way) (ap tree.step_view c.in-Key.is ∙ step_view-Key c.in-Key.key)
+    if_ok c.term.result
+    (λ told w. step_told (λ p. way_view p.names c.args.way) (ap tree.step_view c.in-Key.is ∙ step_view-Key c.in-Key.key)
     (recast (λ p. spec.expr_sites p.names (scope_at later p) (spec.argument true (key_kind p.names (way_view p.names c.args.way))) e)
-    (λ p. p.sight) w (ap (λ w. spec.expr_sites (names_at a) (scope_at later (stand_of a)) w e) asked) refl))
-    (c.expr.ensures later counted)
+    (λ p. p.sight) w.0 (ap (λ w. spec.expr_sites (names_at a) (scope_at later (stand_of a)) w e) asked) refl) refl w.1 refl)
+    (c.term.ensures later counted)
 
 pub given-returns-in-Some : goal.given-returns-in-Some
 given-returns-in-Some t c = λ later counted.
@@ -177,10 +238,14 @@ given-returns-in-Some t c = λ later counted.
     let sc = scope_at later (stand_of a) in
     let kinds = args_of n (access_view n c.args.what) in
     if_ok c.args-in-Some.result
-    (λ f w. recast (λ p. spec.given_sites p.names (scope_at later p) (args_of p.names (access_view p.names c.args.what))
-    (tree.args_view (out-AccessNode c.args.access.now).args)) (λ p. p.sight) w
-    (ap (λ es. spec.arg_sites n sc true kinds (tree.exprs_view es)) c.as_slice.ensures.items
-    ∙ ap (λ o. spec.given_sites n sc kinds (tree.args_view o)) (sym c.in-Some.is)) refl)
+    (λ told w. (
+      recast (λ p. spec.given_sites p.names (scope_at later p) (args_of p.names (access_view p.names c.args.what))
+          (tree.args_view (out-AccessNode c.args.access.now).args)) (λ p. p.sight) w.0
+          (ap (λ es. spec.arg_sites n sc true kinds (tree.exprs_view es)) c.as_slice.ensures.items
+          ∙ ap (λ o. spec.given_sites n sc kinds (tree.args_view o)) (sym c.in-Some.is)) refl,
+      w.1 ∙ ap (λ es. are_plain n a.vars (tree.exprs_view es)) c.as_slice.ensures.items
+          ∙ ap (λ o. are_plain_args n a.vars (tree.args_view o)) (sym c.in-Some.is),
+    ))
     (c.args-in-Some.ensures later counted)
 
 pub given-returns-in-None : goal.given-returns-in-None
@@ -189,9 +254,13 @@ given-returns-in-None t c = λ later counted.
     let n = names_at a in
     let sc = scope_at later (stand_of a) in
     let kinds = args_of n (access_view n c.args.what) in
-    recast (λ p. spec.given_sites p.names (scope_at later p) (args_of p.names (access_view p.names c.args.what))
-    (tree.args_view (out-AccessNode c.args.access.now).args)) (λ p. p.sight) (here {later = later} (λ p. []) refl refl counted)
-    (ap (λ o. spec.given_sites n sc kinds (tree.args_view o)) (sym c.in-None.is)) refl
+    let sites = λ (p : Stand). spec.given_sites p.names (scope_at later p) (args_of p.names (access_view p.names c.args.what))
+    (tree.args_view (out-AccessNode c.args.access.now).args) in (
+      subst (λ f. Walks later a a f sites (λ p. p.sight)) (sym c.nothing.ensures.fault)
+          (recast sites (λ p. p.sight) (here {later = later} (λ p. []) refl refl counted)
+          (ap (λ o. spec.given_sites n sc kinds (tree.args_view o)) (sym c.in-None.is)) refl),
+      c.nothing.ensures.plain ∙ ap (λ o. are_plain_args n a.vars (tree.args_view o)) (sym c.in-None.is),
+    )
 
 pub access-returns : goal.access-returns
 access-returns t c = λ later counted.
@@ -203,15 +272,21 @@ access-returns t c = λ later counted.
     let steps = tree.steps_view (out-AccessNode access).steps in
     let args = tree.args_view (out-AccessNode access).args in
     let keys = c.in_ok-keys.ensures later counted in
-    let given = c.in_ok-args.ensures later keys.counted in
+    let given = c.in_ok-args.ensures later keys.0.counted in
     let what = c.in_ok-what.ensures ∙ ap (access_of n a.vars) parts in
-    recast (λ p. spec.access_sites p.names (scope_at later p) (tree.access_view access)) (λ p. p.sight)
-    (both keys given c.sooner.ensures)
-    (ap (λ l. spec.step_sites n sc (way_view n c.way_from-way.result) (tree.steps_view l)
-    ++ spec.given_sites n sc (args_of n (access_view n c.in_ok-what.what)) args) c.as_slice.ensures.items
-    ∙ ap₂ (λ way k. spec.step_sites n sc way steps ++ spec.given_sites n sc (args_of n k) args) c.way_from-way.ensures what
-    ∙ ap (spec.access_sites n sc) (sym parts))
-    refl
+    let own = c.is_plain_access-own.ensures ∙ ap (is_plain_access n) what in
+    let key = keys.1 ∙ ap (λ l. are_plain_steps n a.vars (tree.steps_view l)) c.as_slice.ensures.items in
+    let arg = given.1 ∙ ap (λ (p : Stand). are_plain_args p.names p.sight.vars args) keys.0.stands in (
+      recast (λ p. spec.access_sites p.names (scope_at later p) (tree.access_view access)) (λ p. p.sight)
+          (both keys.0 given.0 c.sooner.ensures)
+          (ap (λ l. spec.step_sites n sc (way_view n c.way_from-way.result) (tree.steps_view l)
+          ++ spec.given_sites n sc (args_of n (access_view n c.in_ok-what.what)) args) c.as_slice.ensures.items
+          ∙ ap₂ (λ way k. spec.step_sites n sc way steps ++ spec.given_sites n sc (args_of n k) args) c.way_from-way.ensures what
+          ∙ ap (spec.access_sites n sc) (sym parts))
+          refl,
+      c.both.ensures ∙ ap₂ (λ x y. x && y) (c.both-arg-0.ensures ∙ ap₂ (λ x y. x && y) own key) arg
+          ∙ ap (λ t. is_plain_form n a.vars (ExprForm.access t)) (sym parts),
+    )
 
 -- # Variables that come in sight and go
 
@@ -285,142 +360,131 @@ each_arm-returns t c = λ later kind counted cases.
 
 -- # Forms
 
-pub below-returns-in_ok-first-in-Implies : goal.below-returns-in_ok-first-in-Implies
-below-returns-in_ok-first-in-Implies t c = λ later counted.
+pub below-returns-in_ok-last-in-Implies : goal.below-returns-in_ok-last-in-Implies
+below-returns-in_ok-last-in-Implies t c = λ later counted.
     let want = want_view c.args.want in
     let at = c.args.e.now.span in
     let first = c.in_ok-first-in-Implies.ensures later counted in
+    let last = c.in_ok-last-in-Implies.ensures later first.counted in
     let l = c.get.result.now in
     let r = c.get-in-Implies.result.now in
-    if_ok c.behind.result
-    (λ f w. pair_formed want at (ExprForm.implies (tree.expr_view l) (tree.expr_view r)) (tree.expr_view l) (tree.expr_view r) (λ n vs. spec.bool_operand) (λ n vs. spec.bool_operand)
+    formed_told want at
     (ap tree.expr_form_view c.in-Implies.is ∙ expr_form_view-Implies c.in-Implies.left c.in-Implies.right
     ∙ ap₂ (λ l r. ExprForm.implies (tree.expr_view l) (tree.expr_view r)) (sym c.get.ensures) (sym c.get-in-Implies.ensures))
-    (λ n sc. refl) c.bool_operand.ensures c.bool_operand-in-Implies.ensures (both_of first w))
-    (c.behind.ensures later first.counted)
+    (pair_formed want at (ExprForm.implies (tree.expr_view l) (tree.expr_view r)) (tree.expr_view l) (tree.expr_view r) (λ n vs. spec.bool_operand) (λ n vs. spec.bool_operand)
+    refl (λ n sc. refl) c.bool_operand.ensures c.bool_operand-in-Implies.ensures (both_of first last))
+    c.claim.ensures.fault c.claim.ensures.plain refl
 
-pub below-returns-in_ok-first-in-Plus : goal.below-returns-in_ok-first-in-Plus
-below-returns-in_ok-first-in-Plus t c = λ later counted.
-    let want = want_view c.args.want in
-    let at = c.args.e.now.span in
-    let first = c.in_ok-first-in-Plus.ensures later counted in
+pub below-returns-in-Plus : goal.below-returns-in-Plus
+below-returns-in-Plus t c = λ later counted.
     let l = c.get-in-Plus.result.now in
     let r = c.get-in-Plus-2.result.now in
-    if_ok c.behind-in-Plus.result
-    (λ f w. pair_formed want at (ExprForm.plus (tree.expr_view l) (tree.expr_view r)) (tree.expr_view l) (tree.expr_view r) (λ n vs. spec.int_operand) (λ n vs. spec.int_operand)
+    if_ok c.sides.result
+    (λ told w. formed_as (want_view c.args.want) c.args.e.now.span
     (ap tree.expr_form_view c.in-Plus.is ∙ expr_form_view-Plus c.in-Plus.left c.in-Plus.right
-    ∙ ap₂ (λ l r. ExprForm.plus (tree.expr_view l) (tree.expr_view r)) (sym c.get-in-Plus.ensures) (sym c.get-in-Plus-2.ensures))
-    (λ n sc. refl) c.int_operand.ensures c.int_operand-in-Plus.ensures (both_of first w))
-    (c.behind-in-Plus.ensures later first.counted)
+    ∙ ap₂ (λ l r. ExprForm.plus (tree.expr_view l) (tree.expr_view r)) (sym c.get-in-Plus.ensures) (sym c.get-in-Plus-2.ensures)) w.0 w.1)
+    (c.sides.ensures later counted)
 
-pub below-returns-in_ok-first-in-Minus : goal.below-returns-in_ok-first-in-Minus
-below-returns-in_ok-first-in-Minus t c = λ later counted.
-    let want = want_view c.args.want in
-    let at = c.args.e.now.span in
-    let first = c.in_ok-first-in-Minus.ensures later counted in
+pub below-returns-in-Minus : goal.below-returns-in-Minus
+below-returns-in-Minus t c = λ later counted.
     let l = c.get-in-Minus.result.now in
     let r = c.get-in-Minus-2.result.now in
-    if_ok c.behind-in-Minus.result
-    (λ f w. pair_formed want at (ExprForm.minus (tree.expr_view l) (tree.expr_view r)) (tree.expr_view l) (tree.expr_view r) (λ n vs. spec.int_operand) (λ n vs. spec.int_operand)
+    if_ok c.sides-in-Minus.result
+    (λ told w. formed_as (want_view c.args.want) c.args.e.now.span
     (ap tree.expr_form_view c.in-Minus.is ∙ expr_form_view-Minus c.in-Minus.left c.in-Minus.right
-    ∙ ap₂ (λ l r. ExprForm.minus (tree.expr_view l) (tree.expr_view r)) (sym c.get-in-Minus.ensures) (sym c.get-in-Minus-2.ensures))
-    (λ n sc. refl) c.int_operand-in-Minus.ensures c.int_operand-in-Minus-2.ensures (both_of first w))
-    (c.behind-in-Minus.ensures later first.counted)
+    ∙ ap₂ (λ l r. ExprForm.minus (tree.expr_view l) (tree.expr_view r)) (sym c.get-in-Minus.ensures) (sym c.get-in-Minus-2.ensures)) w.0 w.1)
+    (c.sides-in-Minus.ensures later counted)
 
-pub below-returns-in_ok-first-in-Compare : goal.below-returns-in_ok-first-in-Compare
-below-returns-in_ok-first-in-Compare t c = λ later counted.
+pub below-returns-in_ok-last-in-Compare : goal.below-returns-in_ok-last-in-Compare
+below-returns-in_ok-last-in-Compare t c = λ later counted.
     let want = want_view c.args.want in
     let a = c.args.self.now in
     let n = names_at a in
     let op = c.in-Compare.op in
     let first = c.in_ok-first-in-Compare.ensures later counted in
+    let last = c.in_ok-last-in-Compare.ensures later first.counted in
     let l = c.get-in-Compare-3.result.now in
     let r = c.get-in-Compare-4.result.now in
     let left = c.get-in-Compare.ensures ∙ sym c.get-in-Compare-3.ensures in
     let right = c.get-in-Compare-2.ensures ∙ sym c.get-in-Compare-4.ensures in
-    if_ok c.behind-in-Compare.result
-    (λ f w. pair_formed want c.args.e.now.span (ExprForm.compare op (tree.expr_view l) (tree.expr_view r)) (tree.expr_view l) (tree.expr_view r)
-    (λ n vs. spec.left_want n vs op (tree.expr_view l) (tree.expr_view r)) (λ n vs. spec.right_want n vs op (tree.expr_view l) (tree.expr_view r))
+    formed_told want c.args.e.now.span
     (ap tree.expr_form_view c.in-Compare.is ∙ expr_form_view-Compare op c.in-Compare.left c.in-Compare.right
     ∙ ap₂ (λ l r. ExprForm.compare op (tree.expr_view l) (tree.expr_view r)) (sym c.get-in-Compare-3.ensures) (sym c.get-in-Compare-4.ensures))
-    (λ n sc. refl)
+    (pair_formed want c.args.e.now.span (ExprForm.compare op (tree.expr_view l) (tree.expr_view r)) (tree.expr_view l) (tree.expr_view r)
+    (λ n vs. spec.left_want n vs op (tree.expr_view l) (tree.expr_view r)) (λ n vs. spec.right_want n vs op (tree.expr_view l) (tree.expr_view r))
+    refl (λ n sc. refl)
     (c.in_ok-wants-in-Compare.ensures.left ∙ ap₂ (λ l r. spec.left_want n a.vars op (tree.expr_view l) (tree.expr_view r)) left right)
     (c.in_ok-wants-in-Compare.ensures.right ∙ ap₂ (λ l r. spec.right_want n a.vars op (tree.expr_view l) (tree.expr_view r)) left right)
-    (both_of first w))
-    (c.behind-in-Compare.ensures later first.counted)
+    (both_of first last))
+    c.claim-in-Compare.ensures.fault c.claim-in-Compare.ensures.plain refl
 
-pub below-returns-in-Or : goal.below-returns-in-Or
-below-returns-in-Or t c = λ later counted.
-    if_ok c.operands.result
-    (λ f w. formed (want_view c.args.want) c.args.e.now.span
+pub below-returns-in_ok-fault-in-Or : goal.below-returns-in_ok-fault-in-Or
+below-returns-in_ok-fault-in-Or t c = λ later counted.
+    formed_told (want_view c.args.want) c.args.e.now.span
     (ap tree.expr_form_view c.in-Or.is ∙ expr_form_view-Or c.in-Or.operands
-    ∙ ap (λ es. ExprForm.or (tree.exprs_view es)) (sym c.as_slice.ensures.items)) w)
-    (c.operands.ensures later counted)
+    ∙ ap (λ es. ExprForm.or (tree.exprs_view es)) (sym c.as_slice.ensures.items))
+    (c.in_ok-fault-in-Or.ensures later counted) c.claim-in-Or.ensures.fault c.claim-in-Or.ensures.plain refl
 
-pub below-returns-in-And : goal.below-returns-in-And
-below-returns-in-And t c = λ later counted.
-    if_ok c.operands-in-And.result
-    (λ f w. formed (want_view c.args.want) c.args.e.now.span
+pub below-returns-in_ok-fault-in-And : goal.below-returns-in_ok-fault-in-And
+below-returns-in_ok-fault-in-And t c = λ later counted.
+    formed_told (want_view c.args.want) c.args.e.now.span
     (ap tree.expr_form_view c.in-And.is ∙ expr_form_view-And c.in-And.operands
-    ∙ ap (λ es. ExprForm.and (tree.exprs_view es)) (sym c.as_slice-in-And.ensures.items)) w)
-    (c.operands-in-And.ensures later counted)
+    ∙ ap (λ es. ExprForm.and (tree.exprs_view es)) (sym c.as_slice-in-And.ensures.items))
+    (c.in_ok-fault-in-And.ensures later counted) c.claim-in-And.ensures.fault c.claim-in-And.ensures.plain refl
 
-pub below-returns-in-Not : goal.below-returns-in-Not
-below-returns-in-Not t c = λ later counted.
+pub below-returns-in_ok-fault-in-Not : goal.below-returns-in_ok-fault-in-Not
+below-returns-in_ok-fault-in-Not t c = λ later counted.
     let a = c.args.self.now in
     let e = c.get-in-Not.result.now in
-    if_ok c.expr-in-Not.result
-    (λ f w. formed (want_view c.args.want) c.args.e.now.span
+    formed_told (want_view c.args.want) c.args.e.now.span
     (ap tree.expr_form_view c.in-Not.is ∙ expr_form_view-Not c.in-Not.operand ∙ ap (λ e. ExprForm.not (tree.expr_view e)) (sym c.get-in-Not.ensures))
-    (recast (λ p. spec.expr_sites p.names (scope_at later p) spec.bool_operand (tree.expr_view e)) (λ p. p.sight) w
-    (ap (λ w. spec.expr_sites (names_at a) (scope_at later (stand_of a)) w (tree.expr_view e)) c.bool_operand-in-Not.ensures) refl))
-    (c.expr-in-Not.ensures later counted)
+    (recast (λ p. spec.expr_sites p.names (scope_at later p) spec.bool_operand (tree.expr_view e)) (λ p. p.sight) (c.in_ok-fault-in-Not.ensures later counted)
+    (ap (λ w. spec.expr_sites (names_at a) (scope_at later (stand_of a)) w (tree.expr_view e)) c.bool_operand-in-Not.ensures) refl)
+    c.claim-in-Not.ensures.fault c.claim-in-Not.ensures.plain refl
 
 pub below-returns-in-SomeOf : goal.below-returns-in-SomeOf
 below-returns-in-SomeOf t c = λ later counted.
     let a = c.args.self.now in
     let e = c.get-in-SomeOf.result.now in
-    if_ok c.expr-in-SomeOf.result
-    (λ f w. formed (want_view c.args.want) c.args.e.now.span
+    if_ok c.term-in-SomeOf.result
+    (λ told w. formed_as (want_view c.args.want) c.args.e.now.span
     (ap tree.expr_form_view c.in-SomeOf.is ∙ expr_form_view-SomeOf c.in-SomeOf.inside ∙ ap (λ e. ExprForm.some_of (tree.expr_view e)) (sym c.get-in-SomeOf.ensures))
-    (recast (λ p. spec.expr_sites p.names (scope_at later p) (spec.held c.args.want.asked) (tree.expr_view e)) (λ p. p.sight) w
-    (ap (λ w. spec.expr_sites (names_at a) (scope_at later (stand_of a)) w (tree.expr_view e)) c.held.ensures) refl))
-    (c.expr-in-SomeOf.ensures later counted)
+    (recast (λ p. spec.expr_sites p.names (scope_at later p) (spec.held c.args.want.asked) (tree.expr_view e)) (λ p. p.sight) w.0
+    (ap (λ w. spec.expr_sites (names_at a) (scope_at later (stand_of a)) w (tree.expr_view e)) c.held.ensures) refl) w.1)
+    (c.term-in-SomeOf.ensures later counted)
 
 pub below-returns-in-Call : goal.below-returns-in-Call
 below-returns-in-Call t c = λ later counted.
     if_ok c.word.result
-    (λ f w. formed (want_view c.args.want) c.args.e.now.span
+    (λ told w. formed_as (want_view c.args.want) c.args.e.now.span
     (ap tree.expr_form_view c.in-Call.is ∙ expr_form_view-Call c.in-Call.word c.in-Call.args
-    ∙ ap (λ es. ExprForm.call c.in-Call.word (tree.exprs_view es)) (sym c.as_slice-in-Call.ensures.items)) w)
+    ∙ ap (λ es. ExprForm.call c.in-Call.word (tree.exprs_view es)) (sym c.as_slice-in-Call.ensures.items)) w.0 w.1)
     (c.word.ensures later counted)
 
 pub below-returns-in-Access : goal.below-returns-in-Access
 below-returns-in-Access t c = λ later counted.
     if_ok c.access.result
-    (λ f w. formed (want_view c.args.want) c.args.e.now.span
+    (λ told w. formed_as (want_view c.args.want) c.args.e.now.span
     (ap tree.expr_form_view c.in-Access.is ∙ expr_form_view-Access c.in-Access.access
-    ∙ ap (λ a. ExprForm.access (tree.access_view a)) (sym c.get-in-Access.ensures)) w)
+    ∙ ap (λ a. ExprForm.access (tree.access_view a)) (sym c.get-in-Access.ensures)) w.0 w.1)
     (c.access.ensures later counted)
 
-pub below-returns-in-Forall : goal.below-returns-in-Forall
-below-returns-in-Forall t c = λ later counted.
-    if_ok c.quantified.result
-    (λ f w. formed (want_view c.args.want) c.args.e.now.span
+pub below-returns-in_ok-fault-in-Forall : goal.below-returns-in_ok-fault-in-Forall
+below-returns-in_ok-fault-in-Forall t c = λ later counted.
+    formed_told (want_view c.args.want) c.args.e.now.span
     (ap tree.expr_form_view c.in-Forall.is ∙ expr_form_view-Forall c.in-Forall.param c.in-Forall.body
-    ∙ ap₂ (λ p e. ExprForm.forall (tree.param_view p) (tree.expr_view e)) (sym c.get-in-Forall-2.ensures) (sym c.get-in-Forall.ensures)) w)
-    (c.quantified.ensures later counted)
+    ∙ ap₂ (λ p e. ExprForm.forall (tree.param_view p) (tree.expr_view e)) (sym c.get-in-Forall-2.ensures) (sym c.get-in-Forall.ensures))
+    (c.in_ok-fault-in-Forall.ensures later counted) c.claim-in-Forall.ensures.fault c.claim-in-Forall.ensures.plain refl
 
-pub below-returns-in-Exists : goal.below-returns-in-Exists
-below-returns-in-Exists t c = λ later counted.
-    if_ok c.quantified-in-Exists.result
-    (λ f w. formed (want_view c.args.want) c.args.e.now.span
+pub below-returns-in_ok-fault-in-Exists : goal.below-returns-in_ok-fault-in-Exists
+below-returns-in_ok-fault-in-Exists t c = λ later counted.
+    formed_told (want_view c.args.want) c.args.e.now.span
     (ap tree.expr_form_view c.in-Exists.is ∙ expr_form_view-Exists c.in-Exists.param c.in-Exists.body
-    ∙ ap₂ (λ p e. ExprForm.exists (tree.param_view p) (tree.expr_view e)) (sym c.get-in-Exists-2.ensures) (sym c.get-in-Exists.ensures)) w)
-    (c.quantified-in-Exists.ensures later counted)
+    ∙ ap₂ (λ p e. ExprForm.exists (tree.param_view p) (tree.expr_view e)) (sym c.get-in-Exists-2.ensures) (sym c.get-in-Exists.ensures))
+    (c.in_ok-fault-in-Exists.ensures later counted) c.claim-in-Exists.ensures.fault c.claim-in-Exists.ensures.plain refl
 
-pub below-returns-in_ok-first-in-Match : goal.below-returns-in_ok-first-in-Match
-below-returns-in_ok-first-in-Match t c = λ later counted.
+pub below-returns-in_ok-fault-in-Match : goal.below-returns-in_ok-fault-in-Match
+below-returns-in_ok-fault-in-Match t c = λ later counted.
     let a = c.args.self.now in
     let n = names_at a in
     let sc = scope_at later (stand_of a) in
@@ -429,12 +493,12 @@ below-returns-in_ok-first-in-Match t c = λ later counted.
     let arms = tree.expr_arms_view c.as_slice-in-Match.result.now in
     let at = c.args.e.now.span in
     let first = c.in_ok-first-in-Match.ensures later counted in
+    let last = c.in_ok-fault-in-Match.ensures later first.counted in
     let kind = c.in_ok-kind-in-Match.ensures ∙ ap (λ e. type_of n a.vars None (tree.expr_view e)) (c.get-in-Match.ensures ∙ sym c.get-in-Match-2.ensures) in
-    if_ok c.arms.result
-    (λ f w. formed (want_view c.args.want) at
+    formed_told (want_view c.args.want) at
     (ap tree.expr_form_view c.in-Match.is ∙ expr_form_view-Match c.in-Match.term c.in-Match.arms
     ∙ ap₂ (λ e l. ExprForm.match (tree.expr_view e) (tree.expr_arms_view l)) (sym c.get-in-Match-2.ensures) (sym c.as_slice-in-Match.ensures.items))
-    (recast (λ p. spec.form_sites p.names (scope_at later p) (want_view c.args.want) at (ExprForm.match term arms)) (λ p. p.sight) (both_of first w)
+    (recast (λ p. spec.form_sites p.names (scope_at later p) (want_view c.args.want) at (ExprForm.match term arms)) (λ p. p.sight) (both_of first last)
     (ap₂ (λ w k. spec.expr_sites n sc w term ++ Site.arms (word_at (codes "match") at) k (spec.arm_names arms) ∷ spec.arm_sites n sc k [] arms)
-    c.matched.ensures kind) refl))
-    (c.arms.ensures later first.counted)
+    c.matched.ensures kind) refl)
+    c.claim-in-Match.ensures.fault c.claim-in-Match.ensures.plain refl

@@ -1,9 +1,10 @@
-use Rattle.std.proofs.Common.{◌≡◌, List, drop, false, true}
+use Rattle.std.proofs.Common.{◌≡◌, ◌&&◌, List, drop, false, true}
 use Rattle.std.specs.Option.{option_map}
 use Rattle.rp_ast.specs.View.{expr_arms_view, exprs_view, steps_view}
 use Rattle.type_rules.specs.declared.kind.Kind.{Kind}
 use Rattle.type_rules.specs.Names.{Name}
 use Rattle.type_rules.specs.Accesses.{args_of}
+use Rattle.type_rules.specs.Typing.{are_plain, are_plain_steps}
 use Rattle.type_rules.specs.Matches.{cases_of}
 use Rattle.type_rules.specs.ExprSites as spec
 use Rattle.type_tables.specs.Counts.{IsCounted}
@@ -29,6 +30,8 @@ invariant-word-loop-place l =
     → Walked later l.fn.self l.self l.best
     (spec.arg_sites n (scope_at later (stand_of l.fn.self)) false (drop l.place kinds) (exprs_view (drop l.place l.args)))
     (spec.arg_sites n (scope_at later (stand_of l.fn.self)) false kinds (exprs_view l.args)) (λ p. p.sight)
+    × ((l.plain && are_plain n l.fn.self.vars (exprs_view (drop l.place l.args)))
+    ≡ (l.initial.plain && are_plain n l.fn.self.vars (exprs_view l.args)))
 
 abbrev pub invariant-args-loop-place : goal.invariant-args-loop-place
 invariant-args-loop-place l =
@@ -38,6 +41,7 @@ invariant-args-loop-place l =
     → Walked later l.fn.self l.self l.best
     (spec.arg_sites n (scope_at later (stand_of l.fn.self)) true (drop l.place kinds) (exprs_view (drop l.place l.args)))
     (spec.arg_sites n (scope_at later (stand_of l.fn.self)) true kinds (exprs_view l.args)) (λ p. p.sight)
+    × ((l.plain && are_plain n l.fn.self.vars (exprs_view (drop l.place l.args))) ≡ are_plain n l.fn.self.vars (exprs_view l.args))
 
 abbrev pub invariant-keys-loop-step : goal.invariant-keys-loop-step
 invariant-keys-loop-step l =
@@ -46,6 +50,7 @@ invariant-keys-loop-step l =
     → Walked later l.fn.self l.self l.best
     (spec.step_sites n (scope_at later (stand_of l.fn.self)) (way_view n l.way) (steps_view (drop l.step-index l.steps)))
     (spec.step_sites n (scope_at later (stand_of l.fn.self)) (way_view n l.fn.way) (steps_view l.steps)) (λ p. p.sight)
+    × ((l.plain && are_plain_steps n l.fn.self.vars (steps_view (drop l.step-index l.steps))) ≡ are_plain_steps n l.fn.self.vars (steps_view l.steps))
 
 abbrev pub invariant-each_arm-loop-arm : goal.invariant-each_arm-loop-arm
 invariant-each_arm-loop-arm l =

@@ -13,4 +13,4 @@ returns c = λ later counted.
     let own = placed {later = later} (λ p. Site.statement (scope_at later p) access)
     (judged_at (λ sc. Site.statement sc access) c.scope.ensures.names (c.scope.ensures.scope later) (c.in_ok-here.ensures later listed))
     c.in_ok-mark_access.ensures refl counted in
-    both own (c.in_ok-below.ensures later own.counted) c.sooner.ensures
+    both own (c.in_ok-below.ensures later own.counted).0 c.sooner.ensures
