@@ -15,8 +15,8 @@ ghost use Rattle.type_tables.specs.Counts.{IsCounted};
 ghost use Rattle.text_names.specs.Declarations.{names_view};
 
 use crate::rule_accesses::{
-    breaks, has_wrong_arguments, is_early, is_missing, is_no_datatype, is_other, late_root,
-    misfit_in, unset_root,
+    breaks, has_wrong_arguments, is_early, is_missing, is_no_datatype, is_no_plain_term, is_other,
+    late_root, misfit_in, unset_root,
 };
 use crate::rule_terms::{
     access_stands, is_statement, rule_9, rule_10, rule_11, rule_13, rule_14, rule_18, rule_typed,
@@ -72,6 +72,7 @@ fn judge_access(
     let what = access_by(meaning, access)?;
     let other = is_other(scope.names, want, what)?;
     let shapeless = is_no_datatype(scope.names, want, what)?;
+    let formula = is_no_plain_term(want, plain);
     let nothing = is_nothing(meaning);
     let early = is_early(scope, nothing, root);
     let fit = args_fit(what, &access.args);
@@ -86,7 +87,7 @@ fn judge_access(
     let best = note(14, when(wrong, at), best);
     let best = note(13, when(!stands, at), best);
     let best = note(12, misfit_in(what), best);
-    let best = note(11, when(want.plain && !plain, at), best);
+    let best = note(11, when(formula, at), best);
     let best = note(10, when(breaks(10, want, other), at), best);
     let best = note(9, stray_returned(scope, access), best);
     let best = note(4, when(is_missing(nothing, early), at), best);

@@ -110,6 +110,13 @@ pub(crate) fn has_wrong_arguments(wrong: bool, fit: bool) -> bool
     wrong || !fit
 }
 
+/// T11: plain terms.
+pub(crate) fn is_no_plain_term(want: Want, plain: bool) -> bool
+    ensures { result ≡ (want.plain && not plain) }
+{
+    want.plain && !plain
+}
+
 /// T18: what is matched is of a datatype.
 pub(crate) fn is_no_datatype(names: &TextNames, want: Want, what: Access) -> Result<bool, Memory>
     ensures { IfOk result (λ wrong. wrong ≡ (want.rule == 18 && not (spec.is_datatype_kind

@@ -53,7 +53,8 @@ returns c = λ at later counted told.
     let by13 = c.when-7.ensures ∙ ap (λ b. spec.when (not b) x_at) stands in
     let by12 = c.misfit_in.ensures n ∙ ap spec.misfit_in is in
     let plain = told ∙ ap (λ t. is_plain n sc.vars (ExprTree.node at (ExprForm.access t))) parts in
-    let by11 = c.when-8.ensures ∙ ap (λ b. spec.when (w.plain && not b) x_at) plain in
+    let by11 = c.when-8.ensures
+    ∙ ap (λ b. spec.when b x_at) (c.is_no_plain_term-formula.ensures ∙ ap (λ b. w.plain && not b) plain) in
     let wrong = c.breaks-5.ensures ∙ ap (λ b. w.rule == 10 && b) misfits ∙ bare (spec.is_wrong 10 n sc w e) in
     let by10 = c.when-9.ensures ∙ ap (λ b. spec.when b x_at) wrong in
     let by9 = c.stray_returned.ensures ∙ ap (λ t. spec.unless sc.words (spec.returned_word t)) parts in
