@@ -13,6 +13,7 @@ ghost use Rattle.query_bodies.specs.Views.{body_view, given_view, term_view, ter
 
 use crate::bodies::Bodies;
 use crate::lift::lifted;
+use crate::node::node_of;
 use crate::sums::{difference, sum};
 use crate::term::{Body, Term};
 use rp_lang::Expr;
@@ -184,35 +185,38 @@ impl<'b> Expansion<'b> {
             Term::Param(param) => self.param(given, bound, *param),
             Term::Level(level) => Ok(Expr::Bound(bound.saturating_sub(*level).saturating_sub(1))),
             Term::Int(n) => Ok(Expr::Int(*n)),
-            Term::Str(bytes) => Ok(Expr::Str(copy_bytes(self.alloc, bytes.as_slice())?)),
-            Term::Con(con, args) => Ok(Expr::Con(*con, self.terms(given, bound, args.as_slice())?)),
+            Term::Str(bytes) =>
+                node_of!(copy_bytes(self.alloc, bytes.as_slice()), made => Expr::Str(made)),
+            Term::Con(con, args) =>
+                node_of!(self.terms(given, bound, args.as_slice()), made => Expr::Con(*con, made)),
             Term::Sum(a, b) => {
                 let a = self.boxed(given, bound, a.get())?;
-                Ok(sum(a, self.boxed(given, bound, b.get())?))
+                node_of!(self.boxed(given, bound, b.get()), made => sum(a, made))
             }
             Term::Difference(a, b) => {
                 let a = self.boxed(given, bound, a.get())?;
-                difference(a, self.boxed(given, bound, b.get())?)
+                match self.boxed(given, bound, b.get()) {
+                    Ok(made) => difference(a, made),
+                    Err(memory) => Err(memory),
+                }
             }
-            Term::Query(query, args) => {
-                Ok(Expr::Query(*query, self.terms(given, bound, args.as_slice())?))
-            }
-            Term::OpOf(call) => Ok(Expr::OpOf(self.boxed(given, bound, call.get())?)),
-            Term::OpTerm(op, args) => Ok(Expr::OpTerm(
-                *op,
-                self.terms(given, bound, args.as_slice())?,
-            )),
-            Term::OriginOf(call) => Ok(Expr::OriginOf(self.boxed(given, bound, call.get())?)),
-            Term::InfoOf(inv) => Ok(Expr::InfoOf(self.boxed(given, bound, inv.get())?)),
-            Term::InfoTerm(proc, args) => {
-                Ok(Expr::InfoTerm(*proc, self.terms(given, bound, args.as_slice())?))
-            }
-            Term::ResultOf(inv) => Ok(Expr::ResultOf(self.boxed(given, bound, inv.get())?)),
+            Term::Query(query, args) =>
+                node_of!(self.terms(given, bound, args.as_slice()), made => Expr::Query(*query, made)),
+            Term::OpOf(call) =>
+                node_of!(self.boxed(given, bound, call.get()), made => Expr::OpOf(made)),
+            Term::OpTerm(op, args) =>
+                node_of!(self.terms(given, bound, args.as_slice()), made => Expr::OpTerm(*op, made)),
+            Term::OriginOf(call) =>
+                node_of!(self.boxed(given, bound, call.get()), made => Expr::OriginOf(made)),
+            Term::InfoOf(inv) =>
+                node_of!(self.boxed(given, bound, inv.get()), made => Expr::InfoOf(made)),
+            Term::InfoTerm(proc, args) =>
+                node_of!(self.terms(given, bound, args.as_slice()), made => Expr::InfoTerm(*proc, made)),
+            Term::ResultOf(inv) =>
+                node_of!(self.boxed(given, bound, inv.get()), made => Expr::ResultOf(made)),
             Term::ResultTerm(proc, value) => match value {
-                Some(value) => Ok(Expr::ResultTerm(
-                    *proc,
-                    Some(self.boxed(given, bound, value.get())?),
-                )),
+                Some(value) =>
+                    node_of!(self.boxed(given, bound, value.get()), made => Expr::ResultTerm(*proc, Some(made))),
                 None => Ok(Expr::ResultTerm(*proc, None)),
             },
             Term::Unreturned => Ok(Expr::Unreturned),

@@ -11,6 +11,7 @@ ghost use Rattle.query_bodies.specs.Views.{claim_arms_view, claim_view, claims_v
 use crate::claim::{Claim, ClaimArm};
 use crate::expand::Expansion;
 use crate::lift::under;
+use crate::node::node_of;
 use crate::term::{Body, Term};
 use rp_lang::{Arm, Expr, Formula};
 use rp_value::{Boxed, List, Memory};
@@ -138,40 +139,36 @@ impl<'b> Expansion<'b> {
             (claim_view claim.now) ≡ Some (formula_view made)) }
     {
         match claim {
-            Claim::And(parts) => Ok(Formula::And(self.claims(given, bound, parts.as_slice())?)),
-            Claim::Or(parts) => Ok(Formula::Or(self.claims(given, bound, parts.as_slice())?)),
-            Claim::Not(part) => Ok(Formula::Not(self.boxed_claim(given, bound, part.get())?)),
+            Claim::And(parts) =>
+                node_of!(self.claims(given, bound, parts.as_slice()), made => Formula::And(made)),
+            Claim::Or(parts) =>
+                node_of!(self.claims(given, bound, parts.as_slice()), made => Formula::Or(made)),
+            Claim::Not(part) =>
+                node_of!(self.boxed_claim(given, bound, part.get()), made => Formula::Not(made)),
             Claim::Implies(a, b) => {
                 let a = self.boxed_claim(given, bound, a.get())?;
-                Ok(Formula::Implies(a, self.boxed_claim(given, bound, b.get())?))
+                node_of!(self.boxed_claim(given, bound, b.get()), made => Formula::Implies(a, made))
             }
-            Claim::All(ty, body) => Ok(Formula::All(*ty, self.scope(given, bound, body.get())?)),
-            Claim::Any(ty, body) => Ok(Formula::Any(*ty, self.scope(given, bound, body.get())?)),
-            Claim::Holds(e) => Ok(Formula::Holds(self.term(given, bound, e)?)),
-            Claim::Visible(e) => Ok(Formula::Visible(self.term(given, bound, e)?)),
-            Claim::Equal(a, b) => {
-                let (a, b) = self.sides(given, bound, a, b)?;
-                Ok(Formula::Equal(a, b))
-            }
-            Claim::Less(a, b) => {
-                let (a, b) = self.sides(given, bound, a, b)?;
-                Ok(Formula::Less(a, b))
-            }
-            Claim::AtMost(a, b) => {
-                let (a, b) = self.sides(given, bound, a, b)?;
-                Ok(Formula::AtMost(a, b))
-            }
-            Claim::Before(a, b) => {
-                let (a, b) = self.sides(given, bound, a, b)?;
-                Ok(Formula::Before(a, b))
-            }
-            Claim::Same(a, b) => {
-                let (a, b) = self.sides(given, bound, a, b)?;
-                Ok(Formula::Same(a, b))
-            }
+            Claim::All(ty, body) =>
+                node_of!(self.scope(given, bound, body.get()), made => Formula::All(*ty, made)),
+            Claim::Any(ty, body) =>
+                node_of!(self.scope(given, bound, body.get()), made => Formula::Any(*ty, made)),
+            Claim::Holds(e) => node_of!(self.term(given, bound, e), made => Formula::Holds(made)),
+            Claim::Visible(e) =>
+                node_of!(self.term(given, bound, e), made => Formula::Visible(made)),
+            Claim::Equal(a, b) =>
+                node_of!(self.sides(given, bound, a, b), sides => Formula::Equal(sides.0, sides.1)),
+            Claim::Less(a, b) =>
+                node_of!(self.sides(given, bound, a, b), sides => Formula::Less(sides.0, sides.1)),
+            Claim::AtMost(a, b) =>
+                node_of!(self.sides(given, bound, a, b), sides => Formula::AtMost(sides.0, sides.1)),
+            Claim::Before(a, b) =>
+                node_of!(self.sides(given, bound, a, b), sides => Formula::Before(sides.0, sides.1)),
+            Claim::Same(a, b) =>
+                node_of!(self.sides(given, bound, a, b), sides => Formula::Same(sides.0, sides.1)),
             Claim::Match(on, arms) => {
                 let arms = self.arms(given, bound, arms.as_slice())?;
-                Ok(Formula::Match(self.term(given, bound, on)?, arms))
+                node_of!(self.term(given, bound, on), made => Formula::Match(made, arms))
             }
             Claim::Use(decl, args) => self.used_claim(given, bound, *decl, args.as_slice()),
         }

@@ -8,6 +8,7 @@ mod expand;
 mod expand_claims;
 mod lift;
 mod measure;
+mod node;
 mod shorten;
 mod sums;
 mod term;

@@ -4,6 +4,7 @@ ghost use Rattle.std.specs.Prelude.{◌≡◌, ◌+◌, IfOk};
 ghost use Rattle.rp_lang.specs.Views.{expr_view, exprs_view};
 ghost use Rattle.query_bodies.specs.Expanded.{all_lifted_by, lifted_by};
 
+use crate::node::node_of;
 use rp_lang::Expr;
 use rp_value::{Boxed, List, Memory, copy_bytes};
 use std::alloc::Global;
@@ -23,34 +24,34 @@ pub(crate) fn lifted(alloc: Global, by: u32, e: &Expr) -> Result<Expr, Memory>
 {
     match e {
         Expr::Slot(slot) => Ok(Expr::Slot(*slot)),
-        Expr::Bound(n) => Ok(Expr::Bound(under(*n, by)?)),
+        Expr::Bound(n) => node_of!(under(*n, by), made => Expr::Bound(made)),
         Expr::Int(n) => Ok(Expr::Int(*n)),
-        Expr::Str(bytes) => Ok(Expr::Str(copy_bytes(alloc, bytes.as_slice())?)),
-        Expr::Con(con, args) => Ok(Expr::Con(*con, all_lifted(alloc, by, args.as_slice())?)),
-        Expr::Plus(a, n) => Ok(Expr::Plus(boxed(alloc, by, a.get())?, *n)),
+        Expr::Str(bytes) => node_of!(copy_bytes(alloc, bytes.as_slice()), made => Expr::Str(made)),
+        Expr::Con(con, args) =>
+            node_of!(all_lifted(alloc, by, args.as_slice()), made => Expr::Con(*con, made)),
+        Expr::Plus(a, n) => node_of!(boxed(alloc, by, a.get()), made => Expr::Plus(made, *n)),
         Expr::Add(a, b) => {
             let a = boxed(alloc, by, a.get())?;
-            Ok(Expr::Add(a, boxed(alloc, by, b.get())?))
+            node_of!(boxed(alloc, by, b.get()), made => Expr::Add(a, made))
         }
         Expr::Sub(a, b) => {
             let a = boxed(alloc, by, a.get())?;
-            Ok(Expr::Sub(a, boxed(alloc, by, b.get())?))
+            node_of!(boxed(alloc, by, b.get()), made => Expr::Sub(a, made))
         }
-        Expr::Query(query, args) => Ok(Expr::Query(
-            *query,
-            all_lifted(alloc, by, args.as_slice())?,
-        )),
-        Expr::OpOf(call) => Ok(Expr::OpOf(boxed(alloc, by, call.get())?)),
-        Expr::OpTerm(op, args) => Ok(Expr::OpTerm(*op, all_lifted(alloc, by, args.as_slice())?)),
-        Expr::OriginOf(call) => Ok(Expr::OriginOf(boxed(alloc, by, call.get())?)),
-        Expr::InfoOf(inv) => Ok(Expr::InfoOf(boxed(alloc, by, inv.get())?)),
-        Expr::InfoTerm(proc, args) => Ok(Expr::InfoTerm(
-            *proc,
-            all_lifted(alloc, by, args.as_slice())?,
-        )),
-        Expr::ResultOf(inv) => Ok(Expr::ResultOf(boxed(alloc, by, inv.get())?)),
+        Expr::Query(query, args) =>
+            node_of!(all_lifted(alloc, by, args.as_slice()), made => Expr::Query(*query, made)),
+        Expr::OpOf(call) => node_of!(boxed(alloc, by, call.get()), made => Expr::OpOf(made)),
+        Expr::OpTerm(op, args) =>
+            node_of!(all_lifted(alloc, by, args.as_slice()), made => Expr::OpTerm(*op, made)),
+        Expr::OriginOf(call) =>
+            node_of!(boxed(alloc, by, call.get()), made => Expr::OriginOf(made)),
+        Expr::InfoOf(inv) => node_of!(boxed(alloc, by, inv.get()), made => Expr::InfoOf(made)),
+        Expr::InfoTerm(proc, args) =>
+            node_of!(all_lifted(alloc, by, args.as_slice()), made => Expr::InfoTerm(*proc, made)),
+        Expr::ResultOf(inv) => node_of!(boxed(alloc, by, inv.get()), made => Expr::ResultOf(made)),
         Expr::ResultTerm(proc, value) => match value {
-            Some(value) => Ok(Expr::ResultTerm(*proc, Some(boxed(alloc, by, value.get())?))),
+            Some(value) =>
+                node_of!(boxed(alloc, by, value.get()), made => Expr::ResultTerm(*proc, Some(made))),
             None => Ok(Expr::ResultTerm(*proc, None)),
         },
         Expr::Unreturned => Ok(Expr::Unreturned),

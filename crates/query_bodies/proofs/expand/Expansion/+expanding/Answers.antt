@@ -63,12 +63,12 @@ term-returns-in-Unreturned t c =
     let f = spec.term (uses_before c.args.self.now) (map given_view c.args.given.now) c.args.bound in
     leaf_is _ ex.Unreturned _ (ap f (ap term_view c.in-Unreturned.is ∙ term_view-Unreturned)) expr_view-Unreturned
 
-pub term-returns-in_ok-copy_bytes-in-Str : goal.term-returns-in_ok-copy_bytes-in-Str
-term-returns-in_ok-copy_bytes-in-Str t c =
+pub term-returns-in-Ok : goal.term-returns-in-Ok
+term-returns-in-Ok t c =
     let f = spec.term (uses_before c.args.self.now) (map given_view c.args.given.now) c.args.bound in
-    let copy = c.in_ok-copy_bytes-in-Str in
+    let copy = c.in-Ok in
     leaf_is _ (ex.Str c.in-Str.bytes) _ (ap f (ap term_view c.in-Str.is ∙ term_view-Str c.in-Str.bytes))
-    (expr_view-Str copy.field-0 ∙ ap ex.Str (copy.ensures ∙ c.as_slice.ensures.items))
+    (expr_view-Str copy.made ∙ ap ex.Str (copy.ensures ∙ c.as_slice.ensures.items))
 
 pub term-returns-in-None : goal.term-returns-in-None
 term-returns-in-None t c =
@@ -77,14 +77,14 @@ term-returns-in-None t c =
     let node = p.is ∙ ap (term.ResultTerm p.proc) c.in-None.is in
     leaf_is _ (ex.ResultTerm p.proc) _ (ap f (ap term_view node ∙ term_view-ResultTerm p.proc)) (expr_view-ResultTerm p.proc)
 
-pub term-returns-in_ok-terms-in-Con : goal.term-returns-in_ok-terms-in-Con
-term-returns-in_ok-terms-in-Con t c =
+pub term-returns-in-Ok-terms : goal.term-returns-in-Ok-terms
+term-returns-in-Ok-terms t c =
     let f = spec.term (uses_before c.args.self.now) (map given_view c.args.given.now) c.args.bound in
     let fs = spec.terms (uses_before c.args.self.now) (map given_view c.args.given.now) c.args.bound in
     mapped_is (ex.Con c.in-Con.con) _ (fs (terms_view c.in-Con.args)) _ _
     (ap f (ap term_view c.in-Con.is ∙ term_view-Con c.in-Con.con c.in-Con.args))
-    (ap (λ (es : List Term). fs (terms_view es)) (sym c.as_slice-in-Con.ensures.items) ∙ c.in_ok-terms-in-Con.ensures)
-    (expr_view-Con c.in-Con.con c.in_ok-terms-in-Con.field-0)
+    (ap (λ (es : List Term). fs (terms_view es)) (sym c.as_slice-in-Con.ensures.items) ∙ c.in-Ok-terms.ensures)
+    (expr_view-Con c.in-Con.con c.in-Ok-terms.made)
 
 pub term-terms-requires : goal.term-terms-requires
 term-terms-requires t c =
@@ -93,14 +93,14 @@ term-terms-requires t c =
     c.as_slice-in-Con.ensures.items in
     omega (arith, less)
 
-pub term-returns-in_ok-terms-in-Query : goal.term-returns-in_ok-terms-in-Query
-term-returns-in_ok-terms-in-Query t c =
+pub term-returns-in-Ok-terms-2 : goal.term-returns-in-Ok-terms-2
+term-returns-in-Ok-terms-2 t c =
     let f = spec.term (uses_before c.args.self.now) (map given_view c.args.given.now) c.args.bound in
     let fs = spec.terms (uses_before c.args.self.now) (map given_view c.args.given.now) c.args.bound in
     mapped_is (ex.Query c.in-Query.query) _ (fs (terms_view c.in-Query.args)) _ _
     (ap f (ap term_view c.in-Query.is ∙ term_view-Query c.in-Query.query c.in-Query.args))
-    (ap (λ (es : List Term). fs (terms_view es)) (sym c.as_slice-in-Query.ensures.items) ∙ c.in_ok-terms-in-Query.ensures)
-    (expr_view-Query c.in-Query.query c.in_ok-terms-in-Query.field-0)
+    (ap (λ (es : List Term). fs (terms_view es)) (sym c.as_slice-in-Query.ensures.items) ∙ c.in-Ok-terms-2.ensures)
+    (expr_view-Query c.in-Query.query c.in-Ok-terms-2.made)
 
 pub term-terms-requires-in-Query : goal.term-terms-requires-in-Query
 term-terms-requires-in-Query t c =
@@ -109,14 +109,14 @@ term-terms-requires-in-Query t c =
     c.as_slice-in-Query.ensures.items in
     omega (arith, less)
 
-pub term-returns-in_ok-terms-in-OpTerm : goal.term-returns-in_ok-terms-in-OpTerm
-term-returns-in_ok-terms-in-OpTerm t c =
+pub term-returns-in-Ok-terms-3 : goal.term-returns-in-Ok-terms-3
+term-returns-in-Ok-terms-3 t c =
     let f = spec.term (uses_before c.args.self.now) (map given_view c.args.given.now) c.args.bound in
     let fs = spec.terms (uses_before c.args.self.now) (map given_view c.args.given.now) c.args.bound in
     mapped_is (ex.OpTerm c.in-OpTerm.op) _ (fs (terms_view c.in-OpTerm.args)) _ _
     (ap f (ap term_view c.in-OpTerm.is ∙ term_view-OpTerm c.in-OpTerm.op c.in-OpTerm.args))
-    (ap (λ (es : List Term). fs (terms_view es)) (sym c.as_slice-in-OpTerm.ensures.items) ∙ c.in_ok-terms-in-OpTerm.ensures)
-    (expr_view-OpTerm c.in-OpTerm.op c.in_ok-terms-in-OpTerm.field-0)
+    (ap (λ (es : List Term). fs (terms_view es)) (sym c.as_slice-in-OpTerm.ensures.items) ∙ c.in-Ok-terms-3.ensures)
+    (expr_view-OpTerm c.in-OpTerm.op c.in-Ok-terms-3.made)
 
 pub term-terms-requires-in-OpTerm : goal.term-terms-requires-in-OpTerm
 term-terms-requires-in-OpTerm t c =
@@ -125,14 +125,14 @@ term-terms-requires-in-OpTerm t c =
     is c.as_slice-in-OpTerm.ensures.items in
     omega (arith, less)
 
-pub term-returns-in_ok-terms-in-InfoTerm : goal.term-returns-in_ok-terms-in-InfoTerm
-term-returns-in_ok-terms-in-InfoTerm t c =
+pub term-returns-in-Ok-terms-4 : goal.term-returns-in-Ok-terms-4
+term-returns-in-Ok-terms-4 t c =
     let f = spec.term (uses_before c.args.self.now) (map given_view c.args.given.now) c.args.bound in
     let fs = spec.terms (uses_before c.args.self.now) (map given_view c.args.given.now) c.args.bound in
     mapped_is (ex.InfoTerm c.in-InfoTerm.proc) _ (fs (terms_view c.in-InfoTerm.args)) _ _
     (ap f (ap term_view c.in-InfoTerm.is ∙ term_view-InfoTerm c.in-InfoTerm.proc c.in-InfoTerm.args))
-    (ap (λ (es : List Term). fs (terms_view es)) (sym c.as_slice-in-InfoTerm.ensures.items) ∙ c.in_ok-terms-in-InfoTerm.ensures)
-    (expr_view-InfoTerm c.in-InfoTerm.proc c.in_ok-terms-in-InfoTerm.field-0)
+    (ap (λ (es : List Term). fs (terms_view es)) (sym c.as_slice-in-InfoTerm.ensures.items) ∙ c.in-Ok-terms-4.ensures)
+    (expr_view-InfoTerm c.in-InfoTerm.proc c.in-Ok-terms-4.made)
 
 pub term-terms-requires-in-InfoTerm : goal.term-terms-requires-in-InfoTerm
 term-terms-requires-in-InfoTerm t c =
@@ -141,12 +141,12 @@ term-terms-requires-in-InfoTerm t c =
     c.as_slice-in-InfoTerm.result.now is c.as_slice-in-InfoTerm.ensures.items in
     omega (arith, less)
 
-pub term-returns-in_ok-boxed-in-OpOf : goal.term-returns-in_ok-boxed-in-OpOf
-term-returns-in_ok-boxed-in-OpOf t c =
+pub term-returns-in-Ok-boxed-3 : goal.term-returns-in-Ok-boxed-3
+term-returns-in-Ok-boxed-3 t c =
     let f = spec.term (uses_before c.args.self.now) (map given_view c.args.given.now) c.args.bound in
     mapped_is ex.OpOf _ (f (term_view c.in-OpOf.call)) _ _ (ap f (ap term_view c.in-OpOf.is ∙ term_view-OpOf c.in-OpOf.call))
-    (ap (λ (e : Term). f (term_view e)) (sym c.get-in-OpOf.ensures) ∙ c.in_ok-boxed-in-OpOf.ensures)
-    (expr_view-OpOf c.in_ok-boxed-in-OpOf.field-0)
+    (ap (λ (e : Term). f (term_view e)) (sym c.get-in-OpOf.ensures) ∙ c.in-Ok-boxed-3.ensures)
+    (expr_view-OpOf c.in-Ok-boxed-3.made)
 
 pub term-boxed-requires-in-OpOf : goal.term-boxed-requires-in-OpOf
 term-boxed-requires-in-OpOf t c =
@@ -155,13 +155,13 @@ term-boxed-requires-in-OpOf t c =
     c.get-in-OpOf.ensures in
     omega (arith, less)
 
-pub term-returns-in_ok-boxed-in-OriginOf : goal.term-returns-in_ok-boxed-in-OriginOf
-term-returns-in_ok-boxed-in-OriginOf t c =
+pub term-returns-in-Ok-boxed-4 : goal.term-returns-in-Ok-boxed-4
+term-returns-in-Ok-boxed-4 t c =
     let f = spec.term (uses_before c.args.self.now) (map given_view c.args.given.now) c.args.bound in
     mapped_is ex.OriginOf _ (f (term_view c.in-OriginOf.call)) _ _
     (ap f (ap term_view c.in-OriginOf.is ∙ term_view-OriginOf c.in-OriginOf.call))
-    (ap (λ (e : Term). f (term_view e)) (sym c.get-in-OriginOf.ensures) ∙ c.in_ok-boxed-in-OriginOf.ensures)
-    (expr_view-OriginOf c.in_ok-boxed-in-OriginOf.field-0)
+    (ap (λ (e : Term). f (term_view e)) (sym c.get-in-OriginOf.ensures) ∙ c.in-Ok-boxed-4.ensures)
+    (expr_view-OriginOf c.in-Ok-boxed-4.made)
 
 pub term-boxed-requires-in-OriginOf : goal.term-boxed-requires-in-OriginOf
 term-boxed-requires-in-OriginOf t c =
@@ -170,13 +170,13 @@ term-boxed-requires-in-OriginOf t c =
     c.get-in-OriginOf.ensures in
     omega (arith, less)
 
-pub term-returns-in_ok-boxed-in-InfoOf : goal.term-returns-in_ok-boxed-in-InfoOf
-term-returns-in_ok-boxed-in-InfoOf t c =
+pub term-returns-in-Ok-boxed-5 : goal.term-returns-in-Ok-boxed-5
+term-returns-in-Ok-boxed-5 t c =
     let f = spec.term (uses_before c.args.self.now) (map given_view c.args.given.now) c.args.bound in
     mapped_is ex.InfoOf _ (f (term_view c.in-InfoOf.inv)) _ _
     (ap f (ap term_view c.in-InfoOf.is ∙ term_view-InfoOf c.in-InfoOf.inv))
-    (ap (λ (e : Term). f (term_view e)) (sym c.get-in-InfoOf.ensures) ∙ c.in_ok-boxed-in-InfoOf.ensures)
-    (expr_view-InfoOf c.in_ok-boxed-in-InfoOf.field-0)
+    (ap (λ (e : Term). f (term_view e)) (sym c.get-in-InfoOf.ensures) ∙ c.in-Ok-boxed-5.ensures)
+    (expr_view-InfoOf c.in-Ok-boxed-5.made)
 
 pub term-boxed-requires-in-InfoOf : goal.term-boxed-requires-in-InfoOf
 term-boxed-requires-in-InfoOf t c =
@@ -185,13 +185,13 @@ term-boxed-requires-in-InfoOf t c =
     c.get-in-InfoOf.ensures in
     omega (arith, less)
 
-pub term-returns-in_ok-boxed-in-ResultOf : goal.term-returns-in_ok-boxed-in-ResultOf
-term-returns-in_ok-boxed-in-ResultOf t c =
+pub term-returns-in-Ok-boxed-6 : goal.term-returns-in-Ok-boxed-6
+term-returns-in-Ok-boxed-6 t c =
     let f = spec.term (uses_before c.args.self.now) (map given_view c.args.given.now) c.args.bound in
     mapped_is ex.ResultOf _ (f (term_view c.in-ResultOf.inv)) _ _
     (ap f (ap term_view c.in-ResultOf.is ∙ term_view-ResultOf c.in-ResultOf.inv))
-    (ap (λ (e : Term). f (term_view e)) (sym c.get-in-ResultOf.ensures) ∙ c.in_ok-boxed-in-ResultOf.ensures)
-    (expr_view-ResultOf c.in_ok-boxed-in-ResultOf.field-0)
+    (ap (λ (e : Term). f (term_view e)) (sym c.get-in-ResultOf.ensures) ∙ c.in-Ok-boxed-6.ensures)
+    (expr_view-ResultOf c.in-Ok-boxed-6.made)
 
 pub term-boxed-requires-in-ResultOf : goal.term-boxed-requires-in-ResultOf
 term-boxed-requires-in-ResultOf t c =
@@ -200,16 +200,16 @@ term-boxed-requires-in-ResultOf t c =
     c.get-in-ResultOf.ensures in
     omega (arith, less)
 
-pub term-returns-in_ok-boxed-in-Some : goal.term-returns-in_ok-boxed-in-Some
-term-returns-in_ok-boxed-in-Some t c =
+pub term-returns-in-Ok-boxed-7 : goal.term-returns-in-Ok-boxed-7
+term-returns-in-Ok-boxed-7 t c =
     let f = spec.term (uses_before c.args.self.now) (map given_view c.args.given.now) c.args.bound in
     let p = c.in-ResultTerm in
     let node = p.is ∙ ap (term.ResultTerm p.proc) c.in-Some.is in
-    let got = c.in_ok-boxed-in-Some in
+    let got = c.in-Ok-boxed-7 in
     mapped_is (spec.with_value p.proc) _ (f (term_view c.in-Some.value)) _ _
     (ap f (ap term_view node ∙ term_view-ResultTerm-with p.proc c.in-Some.value))
     (ap (λ (e : Term). f (term_view e)) (sym c.get-in-Some.ensures) ∙ got.ensures)
-    (expr_view-ResultTerm-with p.proc got.field-0)
+    (expr_view-ResultTerm-with p.proc got.made)
 
 pub term-boxed-requires-in-Some : goal.term-boxed-requires-in-Some
 term-boxed-requires-in-Some t c =
@@ -220,21 +220,21 @@ term-boxed-requires-in-Some t c =
     c.get-in-Some.ensures in
     omega (arith, less)
 
-pub term-returns-in_ok-boxed-in-Sum : goal.term-returns-in_ok-boxed-in-Sum
-term-returns-in_ok-boxed-in-Sum t c =
+pub term-returns-in-Ok-boxed : goal.term-returns-in-Ok-boxed
+term-returns-in-Ok-boxed t c =
     let f = spec.term (uses_before c.args.self.now) (map given_view c.args.given.now) c.args.bound in
     let a = c.in_ok-a-in-Sum in
-    let b = c.in_ok-boxed-in-Sum in
+    let b = c.in-Ok-boxed in
     both_is values.sum _ (f (term_view c.in-Sum.a)) (f (term_view c.in-Sum.b)) _ _ _
     (ap f (ap term_view c.in-Sum.is ∙ term_view-Sum c.in-Sum.a c.in-Sum.b))
     (ap (λ (e : Term). f (term_view e)) (sym c.get.ensures) ∙ a.ensures)
     (ap (λ (e : Term). f (term_view e)) (sym c.get-in-Sum.ensures) ∙ b.ensures) c.sum.ensures
 
-pub term-returns-in_ok-boxed-in-Difference : goal.term-returns-in_ok-boxed-in-Difference
-term-returns-in_ok-boxed-in-Difference t c =
+pub term-returns-in-Ok-boxed-2 : goal.term-returns-in-Ok-boxed-2
+term-returns-in-Ok-boxed-2 t c =
     let f = spec.term (uses_before c.args.self.now) (map given_view c.args.given.now) c.args.bound in
     let a = c.in_ok-a-in-Difference in
-    let b = c.in_ok-boxed-in-Difference in
+    let b = c.in-Ok-boxed-2 in
     then_ok c.difference.result _ _ (λ e is. both_is values.difference _ (f (term_view c.in-Difference.a))
     (f (term_view c.in-Difference.b)) _ _ _ (ap f (ap term_view c.in-Difference.is
     ∙ term_view-Difference c.in-Difference.a c.in-Difference.b))

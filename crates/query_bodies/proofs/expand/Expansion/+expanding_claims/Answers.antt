@@ -48,13 +48,13 @@ arms-returns t c =
     ∙ ap (option_map arms_of) (all_made (λ a. arm_made u g c.args.bound (claim_arm_view a)) c.args.arms.now
     c.loop-arm.arm-index _ c.loop-arm-test.false c.loop-arm.invariant)
 
-pub claim-returns-in_ok-claims-in-And : goal.claim-returns-in_ok-claims-in-And
-claim-returns-in_ok-claims-in-And t c =
+pub claim-returns-in-Ok : goal.claim-returns-in-Ok
+claim-returns-in-Ok t c =
     let f = spec.claim (uses_before c.args.self.now) (map given_view c.args.given.now) c.args.bound in
     let fs = spec.claims (uses_before c.args.self.now) (map given_view c.args.given.now) c.args.bound in
     mapped_is fo.And _ (fs (claims_view c.in-And.parts)) _ _ (ap f (ap claim_view c.in-And.is ∙ claim_view-And c.in-And.parts))
-    (ap (λ (x : List Claim). fs (claims_view x)) (sym c.as_slice.ensures.items) ∙ c.in_ok-claims-in-And.ensures)
-    (formula_view-And c.in_ok-claims-in-And.field-0)
+    (ap (λ (x : List Claim). fs (claims_view x)) (sym c.as_slice.ensures.items) ∙ c.in-Ok.ensures)
+    (formula_view-And c.in-Ok.made)
 
 pub claim-claims-requires : goal.claim-claims-requires
 claim-claims-requires t c =
@@ -63,13 +63,13 @@ claim-claims-requires t c =
     c.as_slice.ensures.items in
     omega (arith, less)
 
-pub claim-returns-in_ok-claims-in-Or : goal.claim-returns-in_ok-claims-in-Or
-claim-returns-in_ok-claims-in-Or t c =
+pub claim-returns-in-Ok-claims : goal.claim-returns-in-Ok-claims
+claim-returns-in-Ok-claims t c =
     let f = spec.claim (uses_before c.args.self.now) (map given_view c.args.given.now) c.args.bound in
     let fs = spec.claims (uses_before c.args.self.now) (map given_view c.args.given.now) c.args.bound in
     mapped_is fo.Or _ (fs (claims_view c.in-Or.parts)) _ _ (ap f (ap claim_view c.in-Or.is ∙ claim_view-Or c.in-Or.parts))
-    (ap (λ (x : List Claim). fs (claims_view x)) (sym c.as_slice-in-Or.ensures.items) ∙ c.in_ok-claims-in-Or.ensures)
-    (formula_view-Or c.in_ok-claims-in-Or.field-0)
+    (ap (λ (x : List Claim). fs (claims_view x)) (sym c.as_slice-in-Or.ensures.items) ∙ c.in-Ok-claims.ensures)
+    (formula_view-Or c.in-Ok-claims.made)
 
 pub claim-claims-requires-in-Or : goal.claim-claims-requires-in-Or
 claim-claims-requires-in-Or t c =
@@ -78,12 +78,12 @@ claim-claims-requires-in-Or t c =
     c.as_slice-in-Or.ensures.items in
     omega (arith, less)
 
-pub claim-returns-in_ok-boxed_claim-in-Not : goal.claim-returns-in_ok-boxed_claim-in-Not
-claim-returns-in_ok-boxed_claim-in-Not t c =
+pub claim-returns-in-Ok-boxed_claim : goal.claim-returns-in-Ok-boxed_claim
+claim-returns-in-Ok-boxed_claim t c =
     let f = spec.claim (uses_before c.args.self.now) (map given_view c.args.given.now) c.args.bound in
     mapped_is fo.Not _ (f (claim_view c.in-Not.part)) _ _ (ap f (ap claim_view c.in-Not.is ∙ claim_view-Not c.in-Not.part))
-    (ap (λ (x : Claim). f (claim_view x)) (sym c.get.ensures) ∙ c.in_ok-boxed_claim-in-Not.ensures)
-    (formula_view-Not c.in_ok-boxed_claim-in-Not.field-0)
+    (ap (λ (x : Claim). f (claim_view x)) (sym c.get.ensures) ∙ c.in-Ok-boxed_claim.ensures)
+    (formula_view-Not c.in-Ok-boxed_claim.made)
 
 pub claim-boxed_claim-requires : goal.claim-boxed_claim-requires
 claim-boxed_claim-requires t c =
@@ -92,16 +92,16 @@ claim-boxed_claim-requires t c =
     c.get.ensures in
     omega (arith, less)
 
-pub claim-returns-in_ok-boxed_claim-in-Implies : goal.claim-returns-in_ok-boxed_claim-in-Implies
-claim-returns-in_ok-boxed_claim-in-Implies t c =
+pub claim-returns-in-Ok-boxed_claim-2 : goal.claim-returns-in-Ok-boxed_claim-2
+claim-returns-in-Ok-boxed_claim-2 t c =
     let f = spec.claim (uses_before c.args.self.now) (map given_view c.args.given.now) c.args.bound in
     let a = c.in_ok-a-in-Implies in
-    let b = c.in_ok-boxed_claim-in-Implies in
+    let b = c.in-Ok-boxed_claim-2 in
     both_is fo.Implies _ (f (claim_view c.in-Implies.a)) (f (claim_view c.in-Implies.b)) _ _ _
     (ap f (ap claim_view c.in-Implies.is ∙ claim_view-Implies c.in-Implies.a c.in-Implies.b))
     (ap (λ (x : Claim). f (claim_view x)) (sym c.get-in-Implies.ensures) ∙ a.ensures)
     (ap (λ (x : Claim). f (claim_view x)) (sym c.get-in-Implies-2.ensures) ∙ b.ensures)
-    (formula_view-Implies a.a b.field-0)
+    (formula_view-Implies a.a b.made)
 
 pub claim-boxed_claim-requires-in-Implies : goal.claim-boxed_claim-requires-in-Implies
 claim-boxed_claim-requires-in-Implies t c =
@@ -117,14 +117,14 @@ claim-boxed_claim-requires-in-Implies-2 t c =
     c.get-in-Implies-2.result.now is c.get-in-Implies-2.ensures in
     omega (arith, less)
 
-pub claim-returns-in_ok-scope-in-All : goal.claim-returns-in_ok-scope-in-All
-claim-returns-in_ok-scope-in-All t c =
+pub claim-returns-in-Ok-scope : goal.claim-returns-in-Ok-scope
+claim-returns-in-Ok-scope t c =
     let f = spec.claim (uses_before c.args.self.now) (map given_view c.args.given.now) c.args.bound in
     let inside = spec.claim (uses_before c.args.self.now) (map given_view c.args.given.now) (c.args.bound + 1) in
     mapped_is (fo.All c.in-All.ty) _ (inside (claim_view c.in-All.body)) _ _
     (ap f (ap claim_view c.in-All.is ∙ claim_view-All c.in-All.ty c.in-All.body))
-    (ap (λ (x : Claim). inside (claim_view x)) (sym c.get-in-All.ensures) ∙ c.in_ok-scope-in-All.ensures)
-    (formula_view-All c.in-All.ty c.in_ok-scope-in-All.field-0)
+    (ap (λ (x : Claim). inside (claim_view x)) (sym c.get-in-All.ensures) ∙ c.in-Ok-scope.ensures)
+    (formula_view-All c.in-All.ty c.in-Ok-scope.made)
 
 pub claim-scope-requires : goal.claim-scope-requires
 claim-scope-requires t c =
@@ -133,14 +133,14 @@ claim-scope-requires t c =
     c.get-in-All.ensures in
     omega (arith, less)
 
-pub claim-returns-in_ok-scope-in-Any : goal.claim-returns-in_ok-scope-in-Any
-claim-returns-in_ok-scope-in-Any t c =
+pub claim-returns-in-Ok-scope-2 : goal.claim-returns-in-Ok-scope-2
+claim-returns-in-Ok-scope-2 t c =
     let f = spec.claim (uses_before c.args.self.now) (map given_view c.args.given.now) c.args.bound in
     let inside = spec.claim (uses_before c.args.self.now) (map given_view c.args.given.now) (c.args.bound + 1) in
     mapped_is (fo.Any c.in-Any.ty) _ (inside (claim_view c.in-Any.body)) _ _
     (ap f (ap claim_view c.in-Any.is ∙ claim_view-Any c.in-Any.ty c.in-Any.body))
-    (ap (λ (x : Claim). inside (claim_view x)) (sym c.get-in-Any.ensures) ∙ c.in_ok-scope-in-Any.ensures)
-    (formula_view-Any c.in-Any.ty c.in_ok-scope-in-Any.field-0)
+    (ap (λ (x : Claim). inside (claim_view x)) (sym c.get-in-Any.ensures) ∙ c.in-Ok-scope-2.ensures)
+    (formula_view-Any c.in-Any.ty c.in-Ok-scope-2.made)
 
 pub claim-scope-requires-in-Any : goal.claim-scope-requires-in-Any
 claim-scope-requires-in-Any t c =
@@ -149,77 +149,77 @@ claim-scope-requires-in-Any t c =
     c.get-in-Any.ensures in
     omega (arith, less)
 
-pub claim-returns-in_ok-term-in-Holds : goal.claim-returns-in_ok-term-in-Holds
-claim-returns-in_ok-term-in-Holds t c =
+pub claim-returns-in-Ok-term : goal.claim-returns-in-Ok-term
+claim-returns-in-Ok-term t c =
     let f = spec.claim (uses_before c.args.self.now) (map given_view c.args.given.now) c.args.bound in
     let ft = spec.term (uses_before c.args.self.now) (map given_view c.args.given.now) c.args.bound in
     mapped_is fo.Holds _ (ft (term_view c.in-Holds.e)) _ _ (ap f (ap claim_view c.in-Holds.is ∙ claim_view-Holds c.in-Holds.e))
-    c.in_ok-term-in-Holds.ensures (formula_view-Holds c.in_ok-term-in-Holds.field-0)
+    c.in-Ok-term.ensures (formula_view-Holds c.in-Ok-term.made)
 
-pub claim-returns-in_ok-term-in-Visible : goal.claim-returns-in_ok-term-in-Visible
-claim-returns-in_ok-term-in-Visible t c =
+pub claim-returns-in-Ok-term-2 : goal.claim-returns-in-Ok-term-2
+claim-returns-in-Ok-term-2 t c =
     let f = spec.claim (uses_before c.args.self.now) (map given_view c.args.given.now) c.args.bound in
     let ft = spec.term (uses_before c.args.self.now) (map given_view c.args.given.now) c.args.bound in
     mapped_is fo.Visible _ (ft (term_view c.in-Visible.e)) _ _
-    (ap f (ap claim_view c.in-Visible.is ∙ claim_view-Visible c.in-Visible.e)) c.in_ok-term-in-Visible.ensures
-    (formula_view-Visible c.in_ok-term-in-Visible.field-0)
+    (ap f (ap claim_view c.in-Visible.is ∙ claim_view-Visible c.in-Visible.e)) c.in-Ok-term-2.ensures
+    (formula_view-Visible c.in-Ok-term-2.made)
 
-pub claim-returns-in_ok-a-in-Equal : goal.claim-returns-in_ok-a-in-Equal
-claim-returns-in_ok-a-in-Equal t c =
+pub claim-returns-in-Ok-sides : goal.claim-returns-in-Ok-sides
+claim-returns-in-Ok-sides t c =
     let f = spec.claim (uses_before c.args.self.now) (map given_view c.args.given.now) c.args.bound in
     let ft = spec.term (uses_before c.args.self.now) (map given_view c.args.given.now) c.args.bound in
-    let got = c.in_ok-a-in-Equal in
+    let got = c.in-Ok-sides in
     both_is fo.Equal _ (ft (term_view c.in-Equal.a)) (ft (term_view c.in-Equal.b)) _ _ _
     (ap f (ap claim_view c.in-Equal.is ∙ claim_view-Equal c.in-Equal.a c.in-Equal.b)) got.ensures.left got.ensures.right
-    (formula_view-Equal got.a got.b)
+    (formula_view-Equal got.sides.0 got.sides.1)
 
-pub claim-returns-in_ok-a-in-Less : goal.claim-returns-in_ok-a-in-Less
-claim-returns-in_ok-a-in-Less t c =
+pub claim-returns-in-Ok-sides-2 : goal.claim-returns-in-Ok-sides-2
+claim-returns-in-Ok-sides-2 t c =
     let f = spec.claim (uses_before c.args.self.now) (map given_view c.args.given.now) c.args.bound in
     let ft = spec.term (uses_before c.args.self.now) (map given_view c.args.given.now) c.args.bound in
-    let got = c.in_ok-a-in-Less in
+    let got = c.in-Ok-sides-2 in
     both_is fo.Less _ (ft (term_view c.in-Less.a)) (ft (term_view c.in-Less.b)) _ _ _
     (ap f (ap claim_view c.in-Less.is ∙ claim_view-Less c.in-Less.a c.in-Less.b)) got.ensures.left got.ensures.right
-    (formula_view-Less got.a got.b)
+    (formula_view-Less got.sides.0 got.sides.1)
 
-pub claim-returns-in_ok-a-in-AtMost : goal.claim-returns-in_ok-a-in-AtMost
-claim-returns-in_ok-a-in-AtMost t c =
+pub claim-returns-in-Ok-sides-3 : goal.claim-returns-in-Ok-sides-3
+claim-returns-in-Ok-sides-3 t c =
     let f = spec.claim (uses_before c.args.self.now) (map given_view c.args.given.now) c.args.bound in
     let ft = spec.term (uses_before c.args.self.now) (map given_view c.args.given.now) c.args.bound in
-    let got = c.in_ok-a-in-AtMost in
+    let got = c.in-Ok-sides-3 in
     both_is fo.AtMost _ (ft (term_view c.in-AtMost.a)) (ft (term_view c.in-AtMost.b)) _ _ _
     (ap f (ap claim_view c.in-AtMost.is ∙ claim_view-AtMost c.in-AtMost.a c.in-AtMost.b)) got.ensures.left got.ensures.right
-    (formula_view-AtMost got.a got.b)
+    (formula_view-AtMost got.sides.0 got.sides.1)
 
-pub claim-returns-in_ok-a-in-Before : goal.claim-returns-in_ok-a-in-Before
-claim-returns-in_ok-a-in-Before t c =
+pub claim-returns-in-Ok-sides-4 : goal.claim-returns-in-Ok-sides-4
+claim-returns-in-Ok-sides-4 t c =
     let f = spec.claim (uses_before c.args.self.now) (map given_view c.args.given.now) c.args.bound in
     let ft = spec.term (uses_before c.args.self.now) (map given_view c.args.given.now) c.args.bound in
-    let got = c.in_ok-a-in-Before in
+    let got = c.in-Ok-sides-4 in
     both_is fo.Before _ (ft (term_view c.in-Before.a)) (ft (term_view c.in-Before.b)) _ _ _
     (ap f (ap claim_view c.in-Before.is ∙ claim_view-Before c.in-Before.a c.in-Before.b)) got.ensures.left got.ensures.right
-    (formula_view-Before got.a got.b)
+    (formula_view-Before got.sides.0 got.sides.1)
 
-pub claim-returns-in_ok-a-in-Same : goal.claim-returns-in_ok-a-in-Same
-claim-returns-in_ok-a-in-Same t c =
+pub claim-returns-in-Ok-sides-5 : goal.claim-returns-in-Ok-sides-5
+claim-returns-in-Ok-sides-5 t c =
     let f = spec.claim (uses_before c.args.self.now) (map given_view c.args.given.now) c.args.bound in
     let ft = spec.term (uses_before c.args.self.now) (map given_view c.args.given.now) c.args.bound in
-    let got = c.in_ok-a-in-Same in
+    let got = c.in-Ok-sides-5 in
     both_is fo.Same _ (ft (term_view c.in-Same.a)) (ft (term_view c.in-Same.b)) _ _ _
     (ap f (ap claim_view c.in-Same.is ∙ claim_view-Same c.in-Same.a c.in-Same.b)) got.ensures.left got.ensures.right
-    (formula_view-Same got.a got.b)
+    (formula_view-Same got.sides.0 got.sides.1)
 
-pub claim-returns-in_ok-term-in-Match : goal.claim-returns-in_ok-term-in-Match
-claim-returns-in_ok-term-in-Match t c =
+pub claim-returns-in-Ok-term-3 : goal.claim-returns-in-Ok-term-3
+claim-returns-in-Ok-term-3 t c =
     let f = spec.claim (uses_before c.args.self.now) (map given_view c.args.given.now) c.args.bound in
     let ft = spec.term (uses_before c.args.self.now) (map given_view c.args.given.now) c.args.bound in
     let fa = spec.arms_of (uses_before c.args.self.now) (map given_view c.args.given.now) c.args.bound in
     let arms = c.in_ok-arms-in-Match in
-    let on = c.in_ok-term-in-Match in
+    let on = c.in-Ok-term-3 in
     both_is fo.Match _ (ft (term_view c.in-Match.on)) (fa (claim_arms_view c.in-Match.arms)) _ _ _
     (ap f (ap claim_view c.in-Match.is ∙ claim_view-Match c.in-Match.on c.in-Match.arms)) on.ensures
     (ap (λ (x : List ClaimArm). fa (claim_arms_view x)) (sym c.as_slice-in-Match.ensures.items) ∙ arms.ensures)
-    (formula_view-Match on.field-0 arms.arms)
+    (formula_view-Match on.made arms.arms)
 
 pub claim-arms-requires : goal.claim-arms-requires
 claim-arms-requires t c =
