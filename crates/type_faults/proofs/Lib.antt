@@ -6,4 +6,5 @@ pub mod Later
 pub mod Lists
 pub mod Meeting
 pub mod Named
+pub mod Plain
 pub mod Walked

@@ -23,27 +23,27 @@ at_end before left all e none = by before ∙ ap (λ b. before && b) (sym none) 
     by true = refl
     by false = refl
 
-pub plain_next : (n : Names) (vs : List Var) (es : List ExprNode) (i : ℕ) (e : ExprNode) {before next told all : Bool} → i < length es → e ≡ get_or es i e
+pub plain_next : (n : Names) (vs : List Var) (es : List ExprNode) (i : ℕ) (e : ExprNode) (before : Bool) {next told all : Bool} → i < length es → e ≡ get_or es i e
     → (before && are_plain n vs (exprs_view (drop i es))) ≡ all → told ≡ is_plain n vs (expr_view e) → next ≡ (before && told)
     → (next && are_plain n vs (exprs_view (drop (i + 1) es))) ≡ all
-plain_next n vs es i e {before} {next} {told} {all} lt is so own both =
+plain_next n vs es i e before {next} {told} {all} lt is so own both =
     one_more before (is_plain n vs (expr_view e)) next (are_plain n vs (exprs_view (drop (i + 1) es))) (are_plain n vs (exprs_view (drop i es))) all so
     (next_in (λ l. are_plain n vs (exprs_view l)) es i e lt is) own both
 
-pub plain_ended : (n : Names) (vs : List Var) (es : List ExprNode) (i : ℕ) {before all : Bool} → drop i es ≡ []
+pub plain_ended : (n : Names) (vs : List Var) (es : List ExprNode) (i : ℕ) (before : Bool) {all : Bool} → drop i es ≡ []
     → (before && are_plain n vs (exprs_view (drop i es))) ≡ all → before ≡ all
-plain_ended n vs es i {before} {all} past so =
+plain_ended n vs es i before {all} past so =
     at_end before (are_plain n vs (exprs_view (drop i es))) all so (ap (λ l. are_plain n vs (exprs_view l)) past)
 
-pub steps_next : (n : Names) (vs : List Var) (steps : List AccessStep) (i : ℕ) (s : AccessStep) {before next told all : Bool} → i < length steps → s ≡ get_or steps i s
+pub steps_next : (n : Names) (vs : List Var) (steps : List AccessStep) (i : ℕ) (s : AccessStep) (before : Bool) {next told all : Bool} → i < length steps → s ≡ get_or steps i s
     → (before && are_plain_steps n vs (steps_view (drop i steps))) ≡ all → told ≡ is_plain_step n vs (step_view s) → next ≡ (before && told)
     → (next && are_plain_steps n vs (steps_view (drop (i + 1) steps))) ≡ all
-steps_next n vs steps i s {before} {next} {told} {all} lt is so own both =
+steps_next n vs steps i s before {next} {told} {all} lt is so own both =
     one_more before (is_plain_step n vs (step_view s)) next (are_plain_steps n vs (steps_view (drop (i + 1) steps)))
     (are_plain_steps n vs (steps_view (drop i steps))) all so
     (next_in (λ l. are_plain_steps n vs (steps_view l)) steps i s lt is) own both
 
-pub steps_ended : (n : Names) (vs : List Var) (steps : List AccessStep) (i : ℕ) {before all : Bool} → drop i steps ≡ []
+pub steps_ended : (n : Names) (vs : List Var) (steps : List AccessStep) (i : ℕ) (before : Bool) {all : Bool} → drop i steps ≡ []
     → (before && are_plain_steps n vs (steps_view (drop i steps))) ≡ all → before ≡ all
-steps_ended n vs steps i {before} {all} past so =
+steps_ended n vs steps i before {all} past so =
     at_end before (are_plain_steps n vs (steps_view (drop i steps))) all so (ap (λ l. are_plain_steps n vs (steps_view l)) past)

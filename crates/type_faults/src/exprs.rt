@@ -1,6 +1,6 @@
 //! The first faults of expressions.
 
-ghost use Rattle.std.specs.Prelude.{◌≡◌, ◌∷◌, ◌++◌, ◌&&◌, [], codes, false, true, IfOk, List};
+ghost use Rattle.std.specs.Prelude.{◌≡◌, ◌∷◌, ◌++◌, [], codes, false, true, IfOk, List};
 ghost use Rattle.std.specs.Option.{option_map};
 ghost use Rattle.rp_ast.specs.View as tree;
 ghost use Rattle.type_rules.specs.declared.kind.Kind.{Kind as TheKind};
@@ -18,7 +18,7 @@ ghost use Rattle.type_judges.specs.Places.{want_view};
 ghost use Rattle.type_faults.specs.Walks.{Follows, Walks, names_at, scope_at, seeing, stand_of};
 
 use crate::patterns::{add_arm, arm_table};
-use crate::told::{Term, Told, both, claim, nothing};
+use crate::told::{Term, Told, both, claim, nothing, sum};
 use crate::walk::{Found, Walk};
 use rp_ast::{CallWord, CompareOp, ExprArm, ExprForm, ExprNode, Param};
 use rp_span::Span;
@@ -117,24 +117,6 @@ impl<'n, 'a> Walk<'n, 'a> {
         Ok(sooner(best, own))
     }
 
-    /// The sides of a sum or a difference.
-    #[cycle(exprs)]
-    fn sides(&mut self, left: &'a ExprNode, right: &'a ExprNode) -> Term
-        ensures { (later : List Name) → IsCounted self.old.later later
-            → IfOk result (λ told. Walks later self.old self.new told.fault
-            (λ p. spec.expr_sites p.names (scope_at later p) spec.int_operand (tree.expr_view left.now)
-            ++ spec.expr_sites p.names (scope_at later p) spec.int_operand (tree.expr_view right.now)) (λ p. p.sight)
-            × (told.plain ≡ (is_plain (names_at self.old) self.old.vars (tree.expr_view left.now)
-            && is_plain (names_at self.old) self.old.vars (tree.expr_view right.now)))) }
-    {
-        let first = self.term(int_operand(), left)?;
-        let last = self.term(int_operand(), right)?;
-        Ok(Told {
-            fault: sooner(first.fault, last.fault),
-            plain: both(first.plain, last.plain),
-        })
-    }
-
     /// The first fault below the expression itself.
     #[cycle(exprs)]
     fn below(&mut self, want: Want, e: &'a ExprNode) -> Term
@@ -176,8 +158,16 @@ impl<'n, 'a> Walk<'n, 'a> {
                 let last = self.behind(first, wants.right, right.get())?;
                 Ok(claim(last))
             }
-            ExprForm::Plus(left, right) => self.sides(left.get(), right.get()),
-            ExprForm::Minus(left, right) => self.sides(left.get(), right.get()),
+            ExprForm::Plus(left, right) => {
+                let first = self.term(int_operand(), left.get())?;
+                let last = self.term(int_operand(), right.get())?;
+                Ok(sum(first, last))
+            }
+            ExprForm::Minus(left, right) => {
+                let first = self.term(int_operand(), left.get())?;
+                let last = self.term(int_operand(), right.get())?;
+                Ok(sum(first, last))
+            }
             ExprForm::Int(_)
             | ExprForm::Str(_)
             | ExprForm::Truth(_)

@@ -1,9 +1,11 @@
 //! What is told of expressions, from the inside out.
 
 ghost use Rattle.std.specs.Prelude.{◌≡◌, ◌&&◌, None, false, true};
+ghost use Rattle.type_rules.specs.Faults.{sooner as earlier};
 
 use rp_value::Memory;
 use type_rules::Fault;
+use type_tables::sooner;
 
 /// The first fault of an expression or of what stands in one, and whether it is made of plain terms. This is told
 /// from the inside out, since each place asks it of all that stands in it.
@@ -23,6 +25,17 @@ pub(crate) fn claim(fault: Option<Fault>) -> Told
     Told {
         fault,
         plain: false,
+    }
+}
+
+/// Of a sum or a difference, by its sides.
+pub(crate) fn sum(left: Told, right: Told) -> Told
+    ensures fault { result.fault ≡ earlier left.fault right.fault }
+    ensures plain { result.plain ≡ (left.plain && right.plain) }
+{
+    Told {
+        fault: sooner(left.fault, right.fault),
+        plain: both(left.plain, right.plain),
     }
 }
 

@@ -51,21 +51,6 @@ term-returns t c = λ later counted.
 pub expr-returns : goal.expr-returns
 expr-returns t c = λ later counted. (c.in_ok-told.ensures later counted).0
 
-pub sides-returns : goal.sides-returns
-sides-returns t c = λ later counted.
-    let a = c.args.self.now in
-    let n = names_at a in
-    let sc = scope_at later (stand_of a) in
-    let l = tree.expr_view c.args.left.now in
-    let r = tree.expr_view c.args.right.now in
-    let first = c.in_ok-first.ensures later counted in
-    let last = c.in_ok-last.ensures later first.0.counted in (
-      recast (λ p. spec.expr_sites p.names (scope_at later p) spec.int_operand l ++ spec.expr_sites p.names (scope_at later p) spec.int_operand r)
-          (λ p. p.sight) (both first.0 last.0 c.sooner.ensures)
-          (ap₂ (λ u v. spec.expr_sites n sc u l ++ spec.expr_sites n sc v r) c.int_operand.ensures c.int_operand-2.ensures) refl,
-      c.both.ensures ∙ ap₂ (λ x y. x && y) first.1 (last.1 ∙ ap (λ (p : Stand). is_plain p.names p.sight.vars r) first.0.stands),
-    )
-
 pub behind-returns : goal.behind-returns
 behind-returns t c = λ later counted. follows (c.in_ok-own.ensures later counted) c.sooner.ensures
 
@@ -114,8 +99,8 @@ word-loop-place-preserved t c = λ later counted.
       stepped (spec.arg_sites n sc false (drop (i + 1) kinds) (tree.exprs_view (drop (i + 1) es))) before.0 told.0 c.sooner-best.ensures
           (arg_next n sc false kinds es i c.index-args-place.result (want_view c.argument.result) c.in_ok-kind.kind
           c.loop-place-test.true c.index-args-place.is kind c.argument.ensures),
-      plain_next n a.vars es i c.index-args-place.result c.loop-place-test.true c.index-args-place.is before.1
-          (told.1 ∙ ap (λ (p : Stand). is_plain p.names p.sight.vars (tree.expr_view c.index-args-place.result)) walks.stands) c.both.ensures,
+      plain_next n a.vars es i c.index-args-place.result c.loop-place.plain c.loop-place-test.true c.index-args-place.is before.1
+          (told.1 ∙ ap (λ (p : Stand). is_plain p.names p.sight.vars (tree.expr_view c.index-args-place.result)) walks.stands) c.both-plain.ensures,
     )
 
 pub word-returns : goal.word-returns
@@ -130,7 +115,7 @@ word-returns t c = λ later counted.
     let past = drop_past es i c.loop-place-test.false in (
       ended (λ p. spec.arg_sites p.names (scope_at later p) false (spec.word_args p.names p.sight.vars c.args.word (tree.exprs_view es)) (tree.exprs_view es))
           all.0 (ap (λ l. spec.arg_sites n sc false (drop i kinds) (tree.exprs_view l)) past),
-      plain_ended n a.vars es i past all.1 ∙ ap (λ b. b && are_plain n a.vars (tree.exprs_view es)) c.is_plain_word-plain.ensures,
+      plain_ended n a.vars es i c.loop-place.plain past all.1 ∙ ap (λ b. b && are_plain n a.vars (tree.exprs_view es)) c.is_plain_word-plain.ensures,
     )
 
 pub args-loop-place-init : goal.args-loop-place-init
@@ -152,8 +137,8 @@ args-loop-place-preserved t c = λ later counted.
       stepped (spec.arg_sites n sc true (drop (i + 1) kinds) (tree.exprs_view (drop (i + 1) es))) before.0 told.0 c.sooner-best.ensures
           (arg_next n sc true kinds es i c.index-args-place.result (want_view c.argument.result) c.in_ok-kind.kind
           c.loop-place-test.true c.index-args-place.is kind c.argument.ensures),
-      plain_next n a.vars es i c.index-args-place.result c.loop-place-test.true c.index-args-place.is before.1
-          (told.1 ∙ ap (λ (p : Stand). is_plain p.names p.sight.vars (tree.expr_view c.index-args-place.result)) walks.stands) c.both.ensures,
+      plain_next n a.vars es i c.index-args-place.result c.loop-place.plain c.loop-place-test.true c.index-args-place.is before.1
+          (told.1 ∙ ap (λ (p : Stand). is_plain p.names p.sight.vars (tree.expr_view c.index-args-place.result)) walks.stands) c.both-plain.ensures,
     )
 
 pub args-returns : goal.args-returns
@@ -168,7 +153,7 @@ args-returns t c = λ later counted.
     let past = drop_past es i c.loop-place-test.false in (
       ended (λ p. spec.arg_sites p.names (scope_at later p) true (args_of p.names (access_view p.names c.args.what)) (tree.exprs_view es))
           all.0 (ap (λ l. spec.arg_sites n sc true (drop i kinds) (tree.exprs_view l)) past),
-      plain_ended n a.vars es i past all.1,
+      plain_ended n a.vars es i c.loop-place.plain past all.1,
     )
 
 pub keys-loop-step-init : goal.keys-loop-step-init
@@ -190,8 +175,8 @@ keys-loop-step-preserved t c = λ later counted.
       stepped (spec.step_sites n sc (way_view n c.in_ok-way.way) rest) before.0 told.0 c.sooner-best.ensures
           (next_in (λ l. spec.step_sites n sc way (tree.steps_view l)) steps i s c.loop-step-test.true c.step-item.is
           ∙ ap (λ next. spec.key_sites n sc way (tree.step_view s) ++ spec.step_sites n sc next rest) (sym (c.in_ok-way.ensures n))),
-      steps_next n a.vars steps i s c.loop-step-test.true c.step-item.is before.1
-          (told.1 ∙ ap (λ (p : Stand). is_plain_step p.names p.sight.vars (tree.step_view s)) walks.stands) c.both.ensures,
+      steps_next n a.vars steps i s c.loop-step.plain c.loop-step-test.true c.step-item.is before.1
+          (told.1 ∙ ap (λ (p : Stand). is_plain_step p.names p.sight.vars (tree.step_view s)) walks.stands) c.both-plain.ensures,
     )
 
 pub keys-returns : goal.keys-returns
@@ -205,7 +190,7 @@ keys-returns t c = λ later counted.
     let past = drop_past steps i c.loop-step-test.false in (
       ended (λ p. spec.step_sites p.names (scope_at later p) (way_view p.names c.args.way) (tree.steps_view steps))
           all.0 (ap (λ l. spec.step_sites n sc (way_view n c.loop-step.way) (tree.steps_view l)) past),
-      steps_ended n a.vars steps i past all.1,
+      steps_ended n a.vars steps i c.loop-step.plain past all.1,
     )
 
 -- # Parts of an access
@@ -284,7 +269,7 @@ access-returns t c = λ later counted.
           ∙ ap₂ (λ way k. spec.step_sites n sc way steps ++ spec.given_sites n sc (args_of n k) args) c.way_from-way.ensures what
           ∙ ap (spec.access_sites n sc) (sym parts))
           refl,
-      c.both.ensures ∙ ap₂ (λ x y. x && y) (c.both-arg-0.ensures ∙ ap₂ (λ x y. x && y) own key) arg
+      c.both-2.ensures ∙ ap₂ (λ x y. x && y) (c.both.ensures ∙ ap₂ (λ x y. x && y) own key) arg
           ∙ ap (λ t. is_plain_form n a.vars (ExprForm.access t)) (sym parts),
     )
 
@@ -375,25 +360,39 @@ below-returns-in_ok-last-in-Implies t c = λ later counted.
     refl (λ n sc. refl) c.bool_operand.ensures c.bool_operand-in-Implies.ensures (both_of first last))
     c.claim.ensures.fault c.claim.ensures.plain refl
 
-pub below-returns-in-Plus : goal.below-returns-in-Plus
-below-returns-in-Plus t c = λ later counted.
-    let l = c.get-in-Plus.result.now in
-    let r = c.get-in-Plus-2.result.now in
-    if_ok c.sides.result
-    (λ told w. formed_as (want_view c.args.want) c.args.e.now.span
+pub below-returns-in_ok-last-in-Plus : goal.below-returns-in_ok-last-in-Plus
+below-returns-in_ok-last-in-Plus t c = λ later counted.
+    let a = c.args.self.now in
+    let want = want_view c.args.want in
+    let at = c.args.e.now.span in
+    let l = tree.expr_view c.get-in-Plus.result.now in
+    let r = tree.expr_view c.get-in-Plus-2.result.now in
+    let first = c.in_ok-first-in-Plus.ensures later counted in
+    let last = c.in_ok-last-in-Plus.ensures later first.0.counted in
+    formed_as want at
     (ap tree.expr_form_view c.in-Plus.is ∙ expr_form_view-Plus c.in-Plus.left c.in-Plus.right
-    ∙ ap₂ (λ l r. ExprForm.plus (tree.expr_view l) (tree.expr_view r)) (sym c.get-in-Plus.ensures) (sym c.get-in-Plus-2.ensures)) w.0 w.1)
-    (c.sides.ensures later counted)
+    ∙ ap₂ (λ l r. ExprForm.plus (tree.expr_view l) (tree.expr_view r)) (sym c.get-in-Plus.ensures) (sym c.get-in-Plus-2.ensures))
+    (pair_formed want at (ExprForm.plus l r) l r (λ n vs. spec.int_operand) (λ n vs. spec.int_operand)
+    refl (λ n sc. refl) c.int_operand.ensures c.int_operand-in-Plus.ensures (both first.0 last.0 c.sum.ensures.fault))
+    (c.sum.ensures.plain
+    ∙ ap₂ (λ x y. x && y) first.1 (last.1 ∙ ap (λ (p : Stand). is_plain p.names p.sight.vars r) first.0.stands))
 
-pub below-returns-in-Minus : goal.below-returns-in-Minus
-below-returns-in-Minus t c = λ later counted.
-    let l = c.get-in-Minus.result.now in
-    let r = c.get-in-Minus-2.result.now in
-    if_ok c.sides-in-Minus.result
-    (λ told w. formed_as (want_view c.args.want) c.args.e.now.span
+pub below-returns-in_ok-last-in-Minus : goal.below-returns-in_ok-last-in-Minus
+below-returns-in_ok-last-in-Minus t c = λ later counted.
+    let a = c.args.self.now in
+    let want = want_view c.args.want in
+    let at = c.args.e.now.span in
+    let l = tree.expr_view c.get-in-Minus.result.now in
+    let r = tree.expr_view c.get-in-Minus-2.result.now in
+    let first = c.in_ok-first-in-Minus.ensures later counted in
+    let last = c.in_ok-last-in-Minus.ensures later first.0.counted in
+    formed_as want at
     (ap tree.expr_form_view c.in-Minus.is ∙ expr_form_view-Minus c.in-Minus.left c.in-Minus.right
-    ∙ ap₂ (λ l r. ExprForm.minus (tree.expr_view l) (tree.expr_view r)) (sym c.get-in-Minus.ensures) (sym c.get-in-Minus-2.ensures)) w.0 w.1)
-    (c.sides-in-Minus.ensures later counted)
+    ∙ ap₂ (λ l r. ExprForm.minus (tree.expr_view l) (tree.expr_view r)) (sym c.get-in-Minus.ensures) (sym c.get-in-Minus-2.ensures))
+    (pair_formed want at (ExprForm.minus l r) l r (λ n vs. spec.int_operand) (λ n vs. spec.int_operand)
+    refl (λ n sc. refl) c.int_operand-in-Minus.ensures c.int_operand-in-Minus-2.ensures (both first.0 last.0 c.sum-in-Minus.ensures.fault))
+    (c.sum-in-Minus.ensures.plain
+    ∙ ap₂ (λ x y. x && y) first.1 (last.1 ∙ ap (λ (p : Stand). is_plain p.names p.sight.vars r) first.0.stands))
 
 pub below-returns-in_ok-last-in-Compare : goal.below-returns-in_ok-last-in-Compare
 below-returns-in_ok-last-in-Compare t c = λ later counted.
