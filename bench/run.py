@@ -122,6 +122,11 @@ def dropped():
     return numbered("query q{0}(x: Int): Int = first(x, " + long + ");\n", "query first(x: Int, y: Int): Int = x;\n")
 
 
+def uses():
+    """Uses of a query in one another, 58 deep."""
+    return numbered("query q{0}(x: Int): Int = " + "f(" * 58 + "x" + ")" * 58 + ";\n", "query f(x: Int): Int = x;\n")
+
+
 # Runs a command with its output thrown away, and prints the greatest memory that the system counted, in KiB.
 # A program of its own, since a process starts with the count of the one that began it.
 PEAK = """
@@ -174,6 +179,7 @@ def main():
             ("64 invariants", invariants()),
             ("queries that double", doublings()),
             ("a dropped argument", dropped()),
+            ("uses in uses", uses()),
         ]
         for number, (what, text) in enumerate(texts):
             name = os.path.join(folder, f"{number}.rpl")
