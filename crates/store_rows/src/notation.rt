@@ -1,8 +1,7 @@
-// How numbers, values, types, calls and histories are written. A list has commas; `-`, or nothing, is the empty one.
+// How numbers, values, calls and histories are written. A list has commas; `-`, or nothing, is the empty one.
 use crdt_defs::CallRec;
 use crdt_lib::History;
-use rp_lang::{OpKind, PathStep, QueryKind};
-use rp_value::{List, Memory, Ty, Value};
+use rp_value::{List, Memory, Value};
 use std::alloc::Global;
 
 /// What stands before and behind the first such mark, without spaces around.
@@ -37,51 +36,6 @@ impl Word for Value {
                 num: u32::read(num)?,
             }),
             None => Some(Value::Int(word.parse::<i128>().ok()?)),
-        }
-    }
-}
-
-impl Word for Ty {
-    fn read(word: &str) -> Option<Ty> {
-        match word {
-            "id" => Some(Ty::Atom(0)),
-            "int" => Some(Ty::Int),
-            _ => None,
-        }
-    }
-}
-
-/// The number of a field, or the type of a key.
-impl Word for PathStep {
-    fn read(word: &str) -> Option<PathStep> {
-        match Ty::read(word) {
-            Some(ty) => Some(PathStep::Key(ty)),
-            None => Some(PathStep::Field(u32::read(word)?)),
-        }
-    }
-}
-
-impl Word for OpKind {
-    fn read(word: &str) -> Option<OpKind> {
-        match word {
-            "add" => Some(OpKind::Add),
-            "remove" => Some(OpKind::Remove),
-            "assign" => Some(OpKind::Assign),
-            "increment" => Some(OpKind::Increment),
-            "delete" => Some(OpKind::Delete),
-            _ => None,
-        }
-    }
-}
-
-impl Word for QueryKind {
-    fn read(word: &str) -> Option<QueryKind> {
-        match word {
-            "contains" => Some(QueryKind::Contains),
-            "has_key" => Some(QueryKind::HasKey),
-            "get" => Some(QueryKind::GetReg),
-            "sum" => Some(QueryKind::GetSum),
-            _ => None,
         }
     }
 }

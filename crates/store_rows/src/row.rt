@@ -199,19 +199,18 @@ fn are_atoms(alloc: Global, text: &str) -> Result<bool, Memory> {
 /// Whether a line's row is met, where it is a row.
 pub(crate) fn is_met(
     alloc: Global,
-    p: Option<&Program>,
+    p: &Program,
     query: u32,
     line: &str,
 ) -> Result<Option<bool>, Memory> {
     let (kind, text) = cut(line, ' ');
-    let met = match (kind, p) {
-        ("ask", Some(p)) => is_answered(alloc, p, query, text)?,
-        ("ask", None) => false,
-        ("snapshot", _) => is_snapshot_told(alloc, text)?,
-        ("accepts", _) => is_accepted(alloc, text)?,
-        ("before", _) => is_before_told(alloc, text)?,
-        ("view", _) => is_view_told(alloc, text)?,
-        ("atoms", _) => are_atoms(alloc, text)?,
+    let met = match kind {
+        "ask" => is_answered(alloc, p, query, text)?,
+        "snapshot" => is_snapshot_told(alloc, text)?,
+        "accepts" => is_accepted(alloc, text)?,
+        "before" => is_before_told(alloc, text)?,
+        "view" => is_view_told(alloc, text)?,
+        "atoms" => are_atoms(alloc, text)?,
         _ => return Ok(None),
     };
     Ok(Some(met))

@@ -1,4 +1,0 @@
-pub mod FrameViews
-pub mod TypingLemmas
-pub mod Weights
-pub mod TypeLemmas

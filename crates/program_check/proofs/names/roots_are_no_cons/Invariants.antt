@@ -1,7 +1,0 @@
-use Rattle.std.proofs.Common.{◌≡◌, drop, map}
-use Rattle.rp_lang.specs.Names as spec
-use Rattle.rp_lang.specs.Views.{root_view}
-use Rattle.program_check.proofs.names.roots_are_no_cons.Given as goal
-
-abbrev pub invariant-loop-root : goal.invariant-loop-root
-invariant-loop-root l = spec.are_no_cons (spec.root_names (map root_view l.roots)) l.cons ≡ spec.are_no_cons (spec.root_names (map root_view (drop l.root-index l.roots))) l.cons

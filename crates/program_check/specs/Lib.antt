@@ -1,2 +1,0 @@
-pub mod DraftView
-pub mod Frames
