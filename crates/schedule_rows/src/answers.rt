@@ -3,8 +3,8 @@ ghost use Rattle.std.specs.Prelude.{◌≤◌, length};
 
 use crate::spelled::{line_text, text_of};
 use rp_lang::Program;
-use rp_value::Memory;
-use schedule_fmt::{ScheduleErr, read, write};
+use rp_value::{List, Memory};
+use schedule_fmt::{Schedule, ScheduleErr, read, write};
 use std::alloc::Global;
 
 /// What is read of a text.
@@ -20,14 +20,26 @@ enum Answer {
     Long,
 }
 
-/// What `read` answers, and whether `write` gives the text again.
+/// The schedule, of copies of its steps.
+fn copied(alloc: Global, s: &Schedule) -> Result<Schedule, Memory> {
+    let mut steps = List::new(alloc);
+    for step in s.steps.as_slice() {
+        steps.push(step.copy(alloc)?)?;
+    }
+    Ok(Schedule {
+        universe: s.universe,
+        steps,
+    })
+}
+
+/// What `read` answers, and whether `write` gives the text again, of a copy.
 fn answered(alloc: Global, p: &Program, bytes: &[u8]) -> Result<Answer, Memory> {
     if bytes.len() > 4_194_304 {
         return Ok(Answer::Long);
     }
     match read(alloc, bytes, p) {
         Ok(s) => {
-            let again = write(alloc, &s, p)?;
+            let again = write(alloc, &copied(alloc, &s)?, p)?;
             if again.as_slice() == bytes {
                 Ok(Answer::Steps(s.steps.len() as u64))
             } else {
