@@ -13,7 +13,11 @@ from run import PEAK, PROGRAM, TOP, c_program, least_ms
 BASELINE = os.path.join(TOP, "bench", "baseline", "machine.c")
 HEAD = "repliss-schedule 1\nuniverse 1\n"
 EMPTY = "crdt s: SetAw[Int];\n"
-PROCS = "proc add(x: Int) { atomic { s.add(x); } }\nproc remove(x: Int) { atomic { s.remove(x); } }\n"
+ADDS = 127
+PROCS = (
+    "proc add(x: Int) { atomic { s.add(x); } }\nproc remove(x: Int) { atomic { s.remove(x); } }\n"
+    "proc many(x: Int) { atomic { " + "s.add(x); " * ADDS + "} }\n"
+)
 # 0 to 3 are added first and never removed, and no procedure is called with 1000 or more: all of these hold at full views.
 INVARIANTS = "".join(
     f"invariant in{n}: s.contains({n});\n" if n < 4 else f"invariant out{n}: !s.contains({996 + n});\n" for n in range(8)
@@ -38,6 +42,17 @@ def transactions(count, seen):
     return "".join(lines)
 
 
+def large_transactions(count):
+    """Transactions of many operations that see all before. So each call has all calls before in its past."""
+    lines = []
+    for n in range(count):
+        stamp = n * (ADDS + 1)
+        lines.append(f"invoke many {n}\nbegin {n} stamp {stamp} sees{numbers(n)}\n")
+        lines.extend(f"op {n} stamp {stamp + m}\n" for m in range(1, ADDS + 1))
+        lines.append(f"commit {n}\nreturn {n}\n")
+    return "".join(lines)
+
+
 def rows():
     """What a row is called, its program, its steps, and the line that tells how they end."""
     yield "100,000 checks of an empty program", EMPTY, "check\n" * 100_000, "clean: 100000 steps"
@@ -45,6 +60,7 @@ def rows():
     yield "16,384 calls, each sees none", BARE, transactions(8_192, 0), "clean: 40960 steps"
     one_more = transactions(8_192, 0) + "invoke add 1\nbegin 8192 stamp 16384 sees\n"
     yield "the same, and a call too many", BARE, one_more, "refused: limit calls 16384 at step 40962"
+    yield "16,384 calls in 128 transactions, each sees all before", BARE, large_transactions(128), "clean: 16768 steps"
     made = transactions(2_048, 100)
     checks = f"check{numbers(2_048)}\n" * 200
     yield "4,096 calls", WHOLE, made, "clean: 10240 steps"

@@ -2,8 +2,8 @@
  *
  *     machine SCHEDULE [bare]
  *
- * The program is built in: one add-wins set of integers, procedures `add` and `remove` of one operation in a transaction,
- * and the invariants that 0 to 3 are in the set and 1000 to 1003 aren't, or none with the word `bare`. It prints the line
+ * The program is built in: one add-wins set of integers, procedures `add` and `remove` of one operation in a transaction and
+ * `many` of 127 adds in one, and the invariants that 0 to 3 are in the set and 1000 to 1003 aren't, or none with the word `bare`. It prints the line
  * that `repliss replay` prints, but of a refused step not why. */
 #include <inttypes.h>
 #include <stdbool.h>
@@ -11,15 +11,15 @@
 #include <stdlib.h>
 #include <string.h>
 
-enum { MOST = 16384, WORDS = MOST / 64, MOST_BYTES = 4194304, MOST_STEPS = 100000 };
+enum { MOST = 16384, WORDS = MOST / 64, MOST_BYTES = 4194304, MOST_STEPS = 100000, MANY = 127 };
 enum Kind { INVOKE, BEGIN, OP, COMMIT, RETURN, CHECK };
 enum Operation { MARKER, ADD, REMOVE };
-enum Stage { BEFORE, OPEN, DONE_OP, COMMITTED, RETURNED };
+enum Stage { BEFORE, OPEN, COMMITTED, RETURNED };
 enum Answer { MOVED, REFUSED, TOO_MANY_CALLS, TOO_MANY_INVOCATIONS };
 
-typedef struct { enum Kind kind; uint32_t inv; int64_t value; uint64_t stamp; enum Operation op; uint32_t *sees; uint32_t count; } Step;
+typedef struct { enum Kind kind; uint32_t inv; int64_t value; uint64_t stamp; enum Operation op; uint32_t ops; uint32_t *sees; uint32_t count; } Step;
 typedef struct { enum Operation op; int64_t value; uint32_t tx; uint64_t stamp; } Call;
-typedef struct { enum Operation op; int64_t value; enum Stage stage; uint32_t tx; uint64_t view[WORDS]; uint64_t txs[WORDS]; } Invocation;
+typedef struct { enum Operation op; int64_t value; enum Stage stage; uint32_t left; uint32_t tx; uint64_t view[WORDS]; uint64_t txs[WORDS]; } Invocation;
 
 static char text[MOST_BYTES + 1];
 static Step steps[MOST_STEPS];
@@ -70,8 +70,9 @@ static void read_sees(Step *step, const char **at) {
 }
 
 static void read_step(Step *step, const char **at) {
-    if (skip(at, "invoke add ")) *step = (Step){.kind = INVOKE, .op = ADD, .value = (int64_t)number(at)};
-    else if (skip(at, "invoke remove ")) *step = (Step){.kind = INVOKE, .op = REMOVE, .value = (int64_t)number(at)};
+    if (skip(at, "invoke add ")) *step = (Step){.kind = INVOKE, .op = ADD, .ops = 1, .value = (int64_t)number(at)};
+    else if (skip(at, "invoke remove ")) *step = (Step){.kind = INVOKE, .op = REMOVE, .ops = 1, .value = (int64_t)number(at)};
+    else if (skip(at, "invoke many ")) *step = (Step){.kind = INVOKE, .op = ADD, .ops = MANY, .value = (int64_t)number(at)};
     else if (skip(at, "begin ")) {
         *step = (Step){.kind = BEGIN, .inv = (uint32_t)number(at)};
         if (!skip(at, " stamp ")) fault();
@@ -164,11 +165,11 @@ static enum Answer begin(const Step *step) {
 
 static enum Answer operate(const Step *step) {
     Invocation *inv = &invocations[step->inv];
-    if (inv->stage != OPEN || !may_stamp(step->stamp, inv->view)) return REFUSED;
+    if (inv->stage != OPEN || inv->left == 0 || !may_stamp(step->stamp, inv->view)) return REFUSED;
     if (call_count == MOST) return TOO_MANY_CALLS;
     add_call(inv->op, inv->value, inv->tx, step->stamp, inv->view);
     put(inv->view, call_count - 1);
-    inv->stage = DONE_OP;
+    inv->left--;
     return MOVED;
 }
 
@@ -196,14 +197,14 @@ static int check(const Step *step) {
 static enum Answer move(const Step *step) {
     if (step->kind == INVOKE) {
         if (invocation_count == MOST) return TOO_MANY_INVOCATIONS;
-        invocations[invocation_count++] = (Invocation){.op = step->op, .value = step->value, .stage = BEFORE};
+        invocations[invocation_count++] = (Invocation){.op = step->op, .value = step->value, .left = step->ops, .stage = BEFORE};
         return MOVED;
     }
     if (step->inv >= invocation_count) return REFUSED;
     Invocation *inv = &invocations[step->inv];
     if (step->kind == BEGIN) return begin(step);
     if (step->kind == OP) return operate(step);
-    if (step->kind == COMMIT && inv->stage == DONE_OP) {
+    if (step->kind == COMMIT && inv->stage == OPEN && inv->left == 0) {
         committed[inv->tx] = true;
         inv->stage = COMMITTED;
         return MOVED;
