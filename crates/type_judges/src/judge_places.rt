@@ -7,6 +7,7 @@ ghost use Rattle.rp_grammar.specs.Trees.{ExprTree, ExprForm as FormTree};
 ghost use Rattle.type_rules.specs.Names.{Name};
 ghost use Rattle.type_rules.specs.Sites.{Site};
 ghost use Rattle.type_rules.specs.Rules as rules;
+ghost use Rattle.type_rules.specs.Typing.{is_plain};
 ghost use Rattle.type_rules.specs.Faults.{judged};
 ghost use Rattle.type_judges.specs.Meant.{is_access};
 ghost use Rattle.type_judges.specs.Places.{scope_view, want_view};
@@ -14,8 +15,8 @@ ghost use Rattle.type_tables.specs.Counts.{IsCounted};
 ghost use Rattle.text_names.specs.Declarations.{names_view};
 
 use crate::rule_accesses::{
-    breaks, has_wrong_arguments, is_early, is_missing, is_no_datatype, is_no_plain_term, is_other,
-    late_root, misfit_in, unset_root,
+    breaks, has_wrong_arguments, is_early, is_missing, is_no_datatype, is_other, late_root,
+    misfit_in, unset_root,
 };
 use crate::rule_terms::{
     access_stands, is_statement, rule_9, rule_10, rule_11, rule_13, rule_14, rule_18, rule_typed,
@@ -31,9 +32,10 @@ use type_tables::{note, when};
 use type_terms::{access_by, args_fit, is_nothing, meaning_of};
 
 /// The first fault of the place of an expression that isn't an access.
-fn judge_form(scope: &Scope, want: Want, e: &ExprNode) -> Result<Option<Fault>, Memory>
+fn judge_form(scope: &Scope, want: Want, e: &ExprNode, plain: bool) -> Result<Option<Fault>, Memory>
     requires { is_access (tree.expr_view e.now) ≡ false }
     ensures { (later : List Name) → IsCounted scope.now.later.now later
+        → plain ≡ is_plain (names_view scope.now.names.now) scope.now.vars.now (tree.expr_view e.now)
         → IfOk result (λ fault. fault
         ≡ judged (names_view scope.now.names.now)
         (Site.place (scope_view scope.now later) (want_view want) (tree.expr_view e.now))) }
@@ -44,14 +46,21 @@ fn judge_form(scope: &Scope, want: Want, e: &ExprNode) -> Result<Option<Fault>, 
     let best = note(18, rule_18(scope, want, e)?, best);
     let best = note(14, rule_14(scope, want, e)?, best);
     let best = note(13, rule_13(scope, want, e)?, best);
-    let best = note(11, rule_11(scope, want, e)?, best);
+    let best = note(11, rule_11(scope, want, e, plain)?, best);
     let best = note(10, rule_10(scope, want, e)?, best);
     Ok(note(9, rule_9(scope, e)?, best))
 }
 
 /// The first fault of the place of an access.
-fn judge_access(scope: &Scope, want: Want, access: &AccessNode) -> Result<Option<Fault>, Memory>
+fn judge_access(
+    scope: &Scope,
+    want: Want,
+    access: &AccessNode,
+    plain: bool,
+) -> Result<Option<Fault>, Memory>
     ensures { (at : Span) (later : List Name) → IsCounted scope.now.later.now later
+        → plain ≡ is_plain (names_view scope.now.names.now) scope.now.vars.now
+        (ExprTree.node at (FormTree.access (tree.access_view access.now)))
         → IfOk result (λ fault. fault
         ≡ judged (names_view scope.now.names.now)
         (Site.place (scope_view scope.now later) (want_view want)
@@ -63,7 +72,6 @@ fn judge_access(scope: &Scope, want: Want, access: &AccessNode) -> Result<Option
     let what = access_by(meaning, access)?;
     let other = is_other(scope.names, want, what)?;
     let shapeless = is_no_datatype(scope.names, want, what)?;
-    let formula = is_no_plain_term(scope, want, what, access)?;
     let nothing = is_nothing(meaning);
     let early = is_early(scope, nothing, root);
     let fit = args_fit(what, &access.args);
@@ -78,24 +86,30 @@ fn judge_access(scope: &Scope, want: Want, access: &AccessNode) -> Result<Option
     let best = note(14, when(wrong, at), best);
     let best = note(13, when(!stands, at), best);
     let best = note(12, misfit_in(what), best);
-    let best = note(11, when(formula, at), best);
+    let best = note(11, when(want.plain && !plain, at), best);
     let best = note(10, when(breaks(10, want, other), at), best);
     let best = note(9, stray_returned(scope, access), best);
     let best = note(4, when(is_missing(nothing, early), at), best);
     Ok(note(3, late_root(scope.decl, meaning, root), best))
 }
 
-/// The first fault of an expression's place itself.
+/// The first fault of an expression's place itself. Whether the expression is a plain term is told by what stands in it.
 #[tactic(auto, using(rp_ast::proofs::ExprViews::expr_views))]
-pub fn judge_place(scope: &Scope, want: Want, e: &ExprNode) -> Result<Option<Fault>, Memory>
+pub fn judge_place(
+    scope: &Scope,
+    want: Want,
+    e: &ExprNode,
+    plain: bool,
+) -> Result<Option<Fault>, Memory>
     ensures { (later : List Name) → IsCounted scope.now.later.now later
+        → plain ≡ is_plain (names_view scope.now.names.now) scope.now.vars.now (tree.expr_view e.now)
         → IfOk result (λ fault. fault
         ≡ judged (names_view scope.now.names.now)
         (Site.place (scope_view scope.now later) (want_view want) (tree.expr_view e.now))) }
 {
     match &e.what {
-        ExprForm::Access(access) => judge_access(scope, want, access.get()),
-        _ => judge_form(scope, want, e),
+        ExprForm::Access(access) => judge_access(scope, want, access.get(), plain),
+        _ => judge_form(scope, want, e, plain),
     }
 }
 

@@ -22,7 +22,7 @@ use rp_span::Span;
 use rp_value::Memory;
 use text_names::TextNames;
 use type_tables::{fits, is_any, when};
-use type_terms::{Access, Meaning, access_kind, cases_of, is_plain_path};
+use type_terms::{Access, Meaning, access_kind, cases_of};
 
 /// T03: a query is declared before its use.
 pub(crate) fn late_root(decl: u32, meaning: Meaning, root: &Ident) -> Option<Span>
@@ -108,28 +108,6 @@ pub(crate) fn has_wrong_arguments(wrong: bool, fit: bool) -> bool
     ensures { result ≡ (wrong || not fit) }
 {
     wrong || !fit
-}
-
-/// T11: plain terms.
-pub(crate) fn is_no_plain_term(
-    scope: &Scope,
-    want: Want,
-    what: Access,
-    access: &AccessNode,
-) -> Result<bool, Memory>
-    ensures { IfOk result (λ wrong. wrong ≡ (want.plain && not (
-        typing.is_plain_access (names_view scope.now.names.now)
-        (access_view (names_view scope.now.names.now) what.entry)
-        && typing.are_plain_steps (names_view scope.now.names.now) scope.now.vars.now
-        (tree.steps_view (out-AccessNode access.now).steps)
-        && typing.are_plain_args (names_view scope.now.names.now) scope.now.vars.now
-        (tree.args_view (out-AccessNode access.now).args)))) }
-{
-    if !want.plain {
-        return Ok(false);
-    }
-    let plain = is_plain_path(scope.names, scope.vars, what, access)?;
-    Ok(!plain)
 }
 
 /// T18: what is matched is of a datatype.

@@ -6,6 +6,7 @@ ghost use Rattle.type_rules.specs.Names.{Name, Names};
 ghost use Rattle.type_rules.specs.Starts as starts;
 ghost use Rattle.type_rules.specs.Sites.{Site, Scope as AnyScope, Want as AnyWant};
 ghost use Rattle.type_rules.specs.Rules as spec;
+ghost use Rattle.type_rules.specs.Typing.{is_plain};
 ghost use Rattle.type_terms.specs.Views.{access_view};
 ghost use Rattle.type_judges.specs.Meant.{is_access};
 ghost use Rattle.type_judges.specs.Places.{scope_view, want_view};
@@ -19,7 +20,7 @@ use rp_span::Span;
 use rp_value::Memory;
 use type_rules::Kind;
 use type_tables::{fits, is_any, is_open, is_ordinary_base, is_unknown, word_takes};
-use type_terms::{Access, cases_of, is_operation, is_plain, start, type_of};
+use type_terms::{Access, cases_of, is_operation, start, type_of};
 
 /// The start of an expression, where a rule is broken at it.
 fn when_at(broken: bool, e: &ExprNode) -> Result<Option<Span>, Memory>
@@ -156,17 +157,20 @@ pub(crate) fn rule_10(scope: &Scope, want: Want, e: &ExprNode) -> Result<Option<
     when_at(wrong || is_lone_none(want, e) || no_data, e)
 }
 
-/// T11: plain terms.
-pub(crate) fn rule_11(scope: &Scope, want: Want, e: &ExprNode) -> Result<Option<Span>, Memory>
-    ensures { (later : List Name) → IfOk result (λ at. at
+/// T11: plain terms. Whether it is one is told by what stands in it.
+pub(crate) fn rule_11(
+    scope: &Scope,
+    want: Want,
+    e: &ExprNode,
+    plain: bool,
+) -> Result<Option<Span>, Memory>
+    ensures { (later : List Name)
+        → plain ≡ is_plain (names_view scope.now.names.now) scope.now.vars.now (tree.expr_view e.now)
+        → IfOk result (λ at. at
         ≡ spec.rule11 (names_view scope.now.names.now)
         (Site.place (scope_view scope.now later) (want_view want) (tree.expr_view e.now))) }
 {
-    if !want.plain {
-        return Ok(None);
-    }
-    let plain = is_plain(scope.names, scope.vars, e)?;
-    when_at(!plain, e)
+    when_at(want.plain && !plain, e)
 }
 
 fn is_op_word(word: Option<CallWord>) -> bool

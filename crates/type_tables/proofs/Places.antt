@@ -1,5 +1,5 @@
 -- Names that are found by their places.
-use Rattle.std.proofs.Common.{◌≡◌, ℕ, ◌+◌, ◌<◌, Bool, true, false, nat_eq, List, [], ◌∷◌, ◌++◌, length, map, Option, Some, None, refl, sym, ap, ap₂, ◌∙◌, arith, eq-eqb, true≢false}
+use Rattle.std.proofs.Common.{◌≡◌, ℕ, ◌+◌, ◌<◌, Bool, true, false, nat_eq, List, [], ◌∷◌, ◌++◌, length, map, Option, Some, None, refl, sym, ap, ap₂, ◌∙◌, get_or, drop, drop-cons, add-one, arith, eq-eqb, true≢false}
 use Rattle.std.specs.Prelude.{if◌then◌else◌}
 use Rattle.std.specs.Option.{is_some, option_and_then, option_map, unwrap_or}
 use Rattle.std.specs.Map.{update}
@@ -10,6 +10,8 @@ use Rattle.std.proofs.lemmas.List.{length-append}
 use Rattle.std.proofs.lemmas.Slice.Eq.{bytes_eq-Decides}
 use Rattle.type_rules.specs.Names.{Name, same_name}
 use Rattle.type_tables.specs.Tables.{Entries, IsIndexOf, Table, has_number, number_in, place_from, with_first, without}
+use Rattle.type_tables.specs.declared.vars.Known.{Known}
+use Rattle.type_tables.specs.Variables.{known_names}
 
 pub same : (x y : Name) → same_name x y ≡ true → x ≡ y
 same x y h = (bytes_eq-Decides x y).0 h
@@ -173,3 +175,12 @@ pub indexed_pop : (names : List Name) (y : Name) (es after : Entries) (n : ℕ) 
     → number_in after ≡ without (number_in es) y n → IsIndexOf after names
 indexed_pop names y es after n found e taken x =
     ap (λ (t : Table). t x) taken ∙ ap (λ n. without (number_in es) y n x) e ∙ place_pop names y (number_in es) found x
+
+-- the place of a name from one of the variables on is that one's, or else is looked for behind it
+pub from_place : (items : List Known) (i place : ℕ) (none : Known) (name : Name) → i < length items
+    → place_from place (known_names (drop i items)) name
+    ≡ (if same_name (get_or items i none).name.now name then Some place
+    else place_from (place + 1) (known_names (drop (i + 1) items)) name)
+from_place items i place none name lt =
+    let split : drop i items ≡ get_or items i none ∷ drop (i + 1) items = rw add-one (drop-cons items i none lt) in
+    ap (λ (xs : List Known). place_from place (known_names xs) name) split

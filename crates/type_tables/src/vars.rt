@@ -1,9 +1,9 @@
-ghost use Rattle.std.specs.Prelude.{◌≡◌, ◌-◌, [], ◌∷◌, ◌++◌, IfOk, OnErr, OnOk, is_some, length, map, take};
+ghost use Rattle.std.specs.Prelude.{◌≡◌, ◌-◌, ◌≤◌, [], ◌∷◌, ◌++◌, IfOk, OnErr, OnOk, is_some, length, map, take};
 ghost use Rattle.std.specs.Option.{option_map};
 ghost use Rattle.type_rules.specs.Accesses.{find_var};
 ghost use Rattle.type_rules.specs.Flow.{give, with_value};
-ghost use Rattle.type_tables.specs.Tables.{place_from};
-ghost use Rattle.type_tables.specs.Variables.{var_view, set_flags, with_flags, and_flags, give_last};
+ghost use Rattle.type_tables.specs.Tables.{IsIndexOf, place_from};
+ghost use Rattle.type_tables.specs.Variables.{known_names, var_view, set_flags, with_flags, and_flags, give_last};
 
 use crate::flags::Flags;
 use crate::table::NameTable;
@@ -31,7 +31,37 @@ struct Known<'a> {
     fixed: bool,
 }
 
-/// The variables in sight, each found by a hash. Of two of one name the first is found.
+/// So many are looked through for a name, which takes less time than to hash it.
+const FEW: usize = 8;
+
+/// The place of the first of a few variables that has the name.
+fn first_place(items: &[Known], name: &[u8]) -> Option<u32>
+    requires { length items.now ≤ 8 }
+    ensures { result ≡ place_from 0 (known_names items.now) name.now }
+{
+    let mut place: u32 = 0;
+    for item in items {
+        if item.name == name {
+            return Some(place);
+        }
+        place += 1;
+    }
+    None
+}
+
+/// The place of the first variable that has the name, with the table of them.
+fn place_in(items: &[Known], places: &NameTable, name: &[u8]) -> Option<u32>
+    requires { IsIndexOf places.now (known_names items.now) }
+    ensures { result ≡ place_from 0 (known_names items.now) name.now }
+{
+    if items.len() <= FEW {
+        first_place(items, name)
+    } else {
+        places.number(name)
+    }
+}
+
+/// The variables in sight. Many are found by a hash. Of two of one name the first is found.
 #[derive(Drop)]
 pub struct Vars<'a> {
     items: Vec<Known<'a>>,
@@ -74,14 +104,15 @@ impl<'a> Vars<'a> {
     pub fn place(&self, name: &[u8]) -> Option<u32>
         ensures { result ≡ place_from 0 (map (λ v. v.name) self.now) name.now }
     {
-        self.places.number(name)
+        place_in(self.items.as_slice(), &self.places, name)
     }
 
     pub fn find(&self, name: &[u8]) -> Option<VarItem<'a>>
         ensures { option_map var_view result ≡ find_var self.now name.now }
     {
-        let place = self.places.number(name)? as usize;
-        let known = self.items.as_slice().get(place)?;
+        let items = self.items.as_slice();
+        let place = place_in(items, &self.places, name)? as usize;
+        let known = items.get(place)?;
         Some(VarItem {
             name: known.name,
             kind: known.kind,
@@ -94,7 +125,7 @@ impl<'a> Vars<'a> {
     pub fn is_var(&self, name: &[u8]) -> bool
         ensures { result ≡ is_some (find_var self.now name.now) }
     {
-        self.places.number(name).is_some()
+        place_in(self.items.as_slice(), &self.places, name).is_some()
     }
 
     /// One more.
@@ -147,7 +178,7 @@ impl<'a> Vars<'a> {
     pub fn give(&mut self, name: &[u8])
         ensures { self.new ≡ give name.now self.old }
     {
-        if let Some(place) = self.places.number(name) {
+        if let Some(place) = place_in(self.items.as_slice(), &self.places, name) {
             self.set.put(place as usize, true);
         }
     }

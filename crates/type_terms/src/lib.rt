@@ -19,7 +19,7 @@ pub use members::{
     Does, Member, data_of, is_operation, kind_over, member_kind, member_takes, members_of,
 };
 pub use paths::{Way, key_kind, stepped, way_from};
-pub use plain::{is_plain, is_plain_path};
+pub use plain::is_plain_access;
 pub use queries::{names_of, param_var};
 pub use starts::{brace_of, start, type_start, word_at};
 pub use typing::{asked_inside, type_of};

@@ -15,7 +15,7 @@ use text_names::TextNames;
 use type_tables::{Vars, is_plain_word};
 
 /// Whether what is accessed is plain, whatever its keys and arguments are.
-fn is_plain_access(names: &TextNames, what: Access) -> bool
+pub fn is_plain_access(names: &TextNames, what: Access) -> bool
     ensures { result
         ≡ spec.is_plain_access (names_view names.now) (access_view (names_view names.now) what.entry) }
 {
@@ -34,7 +34,11 @@ fn is_plain_access(names: &TextNames, what: Access) -> bool
 /// Whether an expression is a plain term.
 #[cycle(plain)]
 #[tactic(auto, using(rp_ast::proofs::ExprViews::expr_views))]
-pub fn is_plain<'a>(names: &TextNames<'a>, vars: &Vars<'a>, e: &ExprNode) -> Result<bool, Memory>
+pub(crate) fn is_plain<'a>(
+    names: &TextNames<'a>,
+    vars: &Vars<'a>,
+    e: &ExprNode,
+) -> Result<bool, Memory>
     ensures { IfOk result (λ plain. plain
         ≡ spec.is_plain (names_view names.now) vars.now (tree.expr_view e.now)) }
 {
@@ -143,7 +147,7 @@ fn are_plain_args<'a>(
 /// Whether an access that is this is a plain term with its keys and arguments.
 #[cycle(plain)]
 #[tactic(auto, using(rp_ast::proofs::ExprViews::expr_views))]
-pub fn is_plain_path<'a>(
+fn is_plain_path<'a>(
     names: &TextNames<'a>,
     vars: &Vars<'a>,
     what: Access,

@@ -7,7 +7,7 @@ use Rattle.rp_ast.proofs.ExprViews.{access_view-parts}
 use Rattle.type_rules.specs.Faults.{judged}
 use Rattle.type_rules.specs.Sites.{Site}
 use Rattle.type_rules.specs.Accesses as accesses
-use Rattle.type_rules.specs.Typing.{are_plain_args, are_plain_steps, is_plain_access}
+use Rattle.type_rules.specs.Typing.{is_plain}
 use Rattle.type_rules.specs.Rules as spec
 use Rattle.text_names.specs.Declarations.{names_view}
 use Rattle.type_terms.specs.Meanings.{access_by, is_nothing}
@@ -19,7 +19,7 @@ use Rattle.type_judges.proofs.Noted.{noted}
 use Rattle.type_judges.proofs.judge_places.judge_access.Goals as goal
 
 pub returns : goal.returns
-returns c = λ at later counted.
+returns c = λ at later counted told.
     let n = names_view c.args.scope.now.names.now in
     let sc = scope_view c.args.scope.now later in
     let w = want_view c.args.want in
@@ -37,9 +37,6 @@ returns c = λ at later counted.
     let early = c.is_early-early.ensures later counted ∙ ap (λ b. b && spec.is_later sc x) nothing in
     let shapeless = c.in_ok-shapeless.ensures
     ∙ ap (λ b. w.rule == 18 && not (spec.is_datatype_kind n (accesses.access_kind n b))) is in
-    let formula = c.in_ok-formula.ensures
-    ∙ ap (λ b. w.plain && not (is_plain_access n b && are_plain_steps n sc.vars (steps_view node.steps)
-    && are_plain_args n sc.vars (args_view node.args))) is in
     let fit = c.args_fit-fit.ensures n ∙ ap (λ b. accesses.args_fit n b (args_view node.args)) is in
     let stands = c.access_stands-stands.ensures n ∙ ap (spec.access_stands w) is in
     let x_at = node.root.span in
@@ -55,7 +52,8 @@ returns c = λ at later counted.
     ∙ ap₂ (λ b d. b || not d) (c.breaks-4.ensures ∙ ap (λ b. w.rule == 14 && b) misfits) fit) in
     let by13 = c.when-7.ensures ∙ ap (λ b. spec.when (not b) x_at) stands in
     let by12 = c.misfit_in.ensures n ∙ ap spec.misfit_in is in
-    let by11 = c.when-8.ensures ∙ ap (λ b. spec.when b x_at) formula in
+    let plain = told ∙ ap (λ t. is_plain n sc.vars (ExprTree.node at (ExprForm.access t))) parts in
+    let by11 = c.when-8.ensures ∙ ap (λ b. spec.when (w.plain && not b) x_at) plain in
     let wrong = c.breaks-5.ensures ∙ ap (λ b. w.rule == 10 && b) misfits ∙ bare (spec.is_wrong 10 n sc w e) in
     let by10 = c.when-9.ensures ∙ ap (λ b. spec.when b x_at) wrong in
     let by9 = c.stray_returned.ensures ∙ ap (λ t. spec.unless sc.words (spec.returned_word t)) parts in

@@ -7,14 +7,14 @@ use Rattle.type_judges.proofs.Noted.{noted, passed}
 use Rattle.type_judges.proofs.judge_places.judge_form.Goals as goal
 
 pub returns : goal.returns
-returns c = λ later counted.
+returns c = λ later counted told.
     let want = want_view c.args.want in
     let n = names_view c.args.scope.now.names.now in
     let un = unsaid n (scope_view c.args.scope.now later) want (expr_view c.args.e.now) c.requires in
     passed 3 (passed 4
     (noted 9 c.note.ensures (c.in_ok-rule_9.ensures want later)
     (noted 10 c.note-best-8.ensures (c.in_ok-rule_10.ensures later)
-    (noted 11 c.note-best-7.ensures (c.in_ok-rule_11.ensures later)
+    (noted 11 c.note-best-7.ensures (c.in_ok-rule_11.ensures later told)
     (passed 12
     (noted 13 c.note-best-6.ensures (c.in_ok-rule_13.ensures later)
     (noted 14 c.note-best-5.ensures (c.in_ok-rule_14.ensures later)

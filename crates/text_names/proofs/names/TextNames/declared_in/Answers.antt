@@ -18,10 +18,10 @@ loop-number-preserved c = λ h.
     let number = c.loop-number.number in
     let there : slice_get (decls_view decls) number ≡ Some (decl_view c.get.result.now) =
     slice_get-map decl_view decls number ∙ ap (option_map decl_view) c.get.ensures in
-    declared_next (names_view c.loop-number.names) (names_view c.in_ok-names.names)
+    declared_next (names_view c.loop-number.names) (names_view c.add_decl.new.self)
     number (decls_view decls) (decl_view c.get.result.now)
     (c.loop-number.invariant h) there
-    (c.in_ok-names.ensures
+    (c.in_ok-add_decl.ensures
     (ap (λ roots. unwrap_or (slice_get roots number) None) h
     ∙ ap (λ o. unwrap_or o None) (slice_get-map crdt_in (decls_view decls) number ∙ ap (option_map crdt_in) there)))
 
