@@ -1,62 +1,62 @@
 -- Causes of reports, from what was read.
-use Rattle.std.proofs.Common.{◌≡◌, ℕ, ◌+◌, ◌<◌, List, [], length, refl, sym, subst, arith, replicate}
+use Rattle.std.proofs.Common.{◌≡◌, ℕ, ◌+◌, ◌<◌, List, [], length, sym, subst, arith, replicate}
 use Rattle.std.specs.declared.option.Option.{Option}
 use Rattle.std.specs.declared.option.Option.TheVariants.{None, Some}
 use Rattle.std.specs.Prelude.{IfSome}
 use Rattle.std.proofs.lemmas.List.{length-replicate}
 use Rattle.rp_io.specs.Files.{Contents, content_of}
 use Rattle.rp_lang.specs.declared.limit.LimitName.TheVariants as limit
+use Rattle.rp_lang.specs.Programs.{Prog}
 use Rattle.repliss_cli.specs.declared.report.Report.{Report}
-use Rattle.repliss_cli.specs.declared.report.Report.TheVariants.{Verified, Unproved, Usage, Lex, Syntax, Limit, Rule, NotYet}
-use Rattle.repliss_cli.specs.Words.{Words, named}
-use Rattle.repliss_cli.specs.Answers.{IsPastLimit, past_bytes, OnContent, OnName, IsReportOf, HasCause}
+use Rattle.repliss_cli.specs.declared.report.Report.TheVariants.{Limit}
+use Rattle.repliss_cli.specs.Words.{Words, Command, Verify, Replay, asked, program_file}
+use Rattle.repliss_cli.specs.ProgramText.{IsProgramText}
+use Rattle.repliss_cli.specs.Refusals.{IsRefusalOf, past_bytes}
+use Rattle.repliss_cli.specs.Replays.{IsReplayOf, refused_text, long_schedule}
+use Rattle.repliss_cli.specs.Answers.{OnContent, IsReportFrom, IsReportFor, HasCause}
+use Rattle.repliss_cli.proofs.OneReport.{as_report}
 
-on_name : (words : Words) (told : Option Contents) (name : List ℕ) (P : List ℕ → Type 0) → named words ≡ Some name → OnContent (content_of told name) P → OnName (named words) told P
-on_name words told name P e h = subst (λ n. OnName n told P) (sym e) h
-
-on_content : (found : Option (List ℕ)) (content : List ℕ) (P : List ℕ → Type 0) → IfSome found (λ c. content ≡ c) → P content → OnContent found P
+-- what holds of the bytes that were read holds of the content
+pub on_content : (found : Option (List ℕ)) (content : List ℕ) (P : List ℕ → Type 0) → IfSome found (λ c. content ≡ c) → P content → OnContent found P
 on_content None content P same h = (content, h)
 on_content (Some c) content P same h = subst P same h
-
--- the report on what was read of the named file
-pub content_cause : (words : Words) (told : Option Contents) (name content : List ℕ) (report : Report)
-    → named words ≡ Some name → IfSome (content_of told name) (λ c. content ≡ c) → IsReportOf content report → HasCause words told report
-content_cause words told name content (Verified count) e same h = on_name words told name _ e (on_content (content_of told name) content _ same h)
-content_cause words told name content (Unproved count lines) e same h = on_name words told name _ e (on_content (content_of told name) content _ same h)
-content_cause words told name content Usage e same h = absurd h
-content_cause words told name content (Lex fault pos) e same h = on_name words told name _ e (on_content (content_of told name) content _ same h)
-content_cause words told name content (Syntax pos) e same h = on_name words told name _ e (on_content (content_of told name) content _ same h)
-content_cause words told name content (Limit passed) e same h = on_name words told name _ e (on_content (content_of told name) content _ same h)
-content_cause words told name content (Rule rule pos) e same h = on_name words told name _ e (on_content (content_of told name) content _ same h)
-content_cause words told name content NotYet e same h = on_name words told name _ e (on_content (content_of told name) content _ same h)
 
 -- some bytes are longer
 longer : (n : ℕ) → (bytes : List ℕ) × (n < length bytes)
 longer n = (replicate (n + 1) 0, omega (arith, length-replicate {A = ℕ} (n + 1) 0))
 
-too_long : (n : ℕ) (found : Option (List ℕ)) → IfSome found (λ c. n < length c) → OnContent found (λ c. n < length c)
-too_long n None h = longer n
-too_long n (Some c) h = h
+-- what holds of all longer bytes holds of a content that is longer
+on_longer : (n : ℕ) (found : Option (List ℕ)) (P : List ℕ → Type 0) → IfSome found (λ c. n < length c) → ((c : List ℕ) → n < length c → P c) → OnContent found P
+on_longer n None P h f = let (c, long) = longer n in (c, f c long)
+on_longer n (Some c) P h f = f c h
 
-past_limit : (found : Option (List ℕ)) → OnContent found (λ c. 262144 < length c) → OnContent found (λ c. IsPastLimit c limit.ProgramBytes)
-past_limit None (c, long) = (c, past_bytes long)
-past_limit (Some c) long = past_bytes long
+-- what holds of all bytes
+on_any : (found : Option (List ℕ)) (P : List ℕ → Type 0) → ((c : List ℕ) → P c) → OnContent found P
+on_any None P f = ([], f [])
+on_any (Some c) P f = f c
 
-pub too_long_cause : (words : Words) (told : Option Contents) (name : List ℕ)
-    → named words ≡ Some name → IfSome (content_of told name) (λ c. 262144 < length c) → HasCause words told (Limit limit.ProgramBytes)
-too_long_cause words told name e h = on_name words told name _ e (past_limit (content_of told name) (too_long 262144 (content_of told name) h))
+-- a schedule that is too long
+pub long_cause : (content : List ℕ) (p : Prog) (found : Option (List ℕ)) → IsProgramText content p → IfSome found (λ c. 4194304 < length c)
+    → OnContent found (λ bytes. IsReplayOf content bytes (Limit limit.ScheduleBytes))
+long_cause content p found text h = on_longer 4194304 found (λ bytes. IsReplayOf content bytes (Limit limit.ScheduleBytes)) h (λ bytes long. long_schedule text long)
 
--- some report always has its cause
--- each text has a report
-abbrev SomeReport : Type 0
-SomeReport = (content : List ℕ) → (report : Report) × IsReportOf content report
+-- what refuses the text is told of each command
+pub refusal_cause : (content : List ℕ) (told : Option Contents) (command : Command) (r : Report) → IsRefusalOf content r → IsReportFrom content told command r
+refusal_cause content told (Verify file) r h = as_report content r h
+refusal_cause content told (Replay file schedule) r h = on_any (content_of told schedule) (λ bytes. IsReplayOf content bytes r) (λ bytes. refused_text h)
 
-some_of_content : (some_report : SomeReport) (words : Words) (told : Option Contents) (name content : List ℕ) → named words ≡ Some name → IfSome (content_of told name) (λ c. content ≡ c) → (report : Report) × HasCause words told report
-some_of_content some_report words told name content e same = let (report, is) = some_report content in (report, content_cause words told name content report e same is)
+has_cause : (words : Words) (told : Option Contents) (command : Command) (r : Report) → asked words ≡ Some command → IsReportFor (Some command) told r → HasCause words told r
+has_cause words told command r is h = subst (λ a. IsReportFor a told r) (sym is) h
 
-some_found : (some_report : SomeReport) (words : Words) (told : Option Contents) (name : List ℕ) → named words ≡ Some name → (found : Option (List ℕ)) → content_of told name ≡ found → (report : Report) × HasCause words told report
-some_found some_report words told name e None is = some_of_content some_report words told name [] e (subst (λ o. IfSome o (λ c. [] ≡ c)) (sym is) tt)
-some_found some_report words told name e (Some content) is = some_of_content some_report words told name content e (subst (λ o. IfSome o (λ c. content ≡ c)) (sym is) refl)
+-- the report on what was read of the program's file
+pub content_cause : (words : Words) (told : Option Contents) (command : Command) (content : List ℕ) (r : Report)
+    → asked words ≡ Some command → IfSome (content_of told (program_file command)) (λ c. content ≡ c) → IsReportFrom content told command r → HasCause words told r
+content_cause words told command content r is same h =
+    has_cause words told command r is (on_content (content_of told (program_file command)) content (λ content. IsReportFrom content told command r) same h)
 
-pub some_cause : (some_report : SomeReport) (words : Words) (told : Option Contents) (name : List ℕ) → named words ≡ Some name → (report : Report) × HasCause words told report
-some_cause some_report words told name e = some_found some_report words told name e (content_of told name) refl
+pub too_long_cause : (words : Words) (told : Option Contents) (command : Command)
+    → asked words ≡ Some command → IfSome (content_of told (program_file command)) (λ c. 262144 < length c) → HasCause words told (Limit limit.ProgramBytes)
+too_long_cause words told command is h =
+    has_cause words told command (Limit limit.ProgramBytes) is
+    (on_longer 262144 (content_of told (program_file command)) (λ content. IsReportFrom content told command (Limit limit.ProgramBytes)) h
+    (λ content long. refusal_cause content told command (Limit limit.ProgramBytes) (past_bytes long)))

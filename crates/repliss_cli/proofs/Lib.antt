@@ -8,3 +8,10 @@ pub mod Refused
 pub mod Causes
 pub mod Exactly
 pub mod Putting
+pub mod FirstLimits
+pub mod Ends
+pub mod SomeReplay
+pub mod OneReplay
+pub mod WordReports
+pub mod Outcomes
+pub mod NamedFiles

@@ -19,10 +19,12 @@ use Rattle.desugaring.specs.Limits.{first_limit, HasProgram, PassesLimit}
 use Rattle.rp_verify.specs.Verdicts.{IsWithinLimits}
 use Rattle.repliss_cli.specs.declared.report.GoalLine.{GoalLine}
 use Rattle.repliss_cli.specs.declared.report.Report.{Report}
-use Rattle.repliss_cli.specs.declared.report.Report.TheVariants.{Verified, Unproved, Usage, Lex, Syntax, Limit, Rule, NotYet}
+use Rattle.repliss_cli.specs.declared.report.Report.TheVariants.{Verified, Unproved, Usage, Lex, Syntax, Limit, Rule, NotYet, Schedule}
+use Rattle.repliss_cli.specs.ProgramText.{IsProgramText}
 use Rattle.repliss_cli.specs.FirstText.{IsFirstText}
-use Rattle.repliss_cli.specs.Answers.{line_of, NameFalse, no_goal, false_goal, other_goal, IsPastLimit, past_bytes, past_nesting, past_program, IsReportOf}
-use Rattle.repliss_cli.proofs.Readings.{Reading, too_long, faulty, bad, too_deep, tree, Reads, reads_too_long, reads_faulty, reads_bad, reads_too_deep, reads_tree, one_reading}
+use Rattle.repliss_cli.specs.Refusals.{IsPastLimit, past_bytes, past_nesting, past_program, IsRefusalOf}
+use Rattle.repliss_cli.specs.Answers.{line_of, NameFalse, no_goal, false_goal, other_goal, IsReportOf}
+use Rattle.repliss_cli.proofs.Readings.{Reading, too_long, faulty, bad, too_deep, tree, Reads, reads_too_long, reads_faulty, reads_bad, reads_too_deep, reads_tree, one_reading, one_tree}
 
 -- a tree is one program
 abbrev pub OneProgram : Type 0
@@ -135,7 +137,8 @@ pub record IsOf (content : List ℕ) (a : Reading) (r : Report) : Type 0 where
 
 of_first_text : {content : List ℕ} {p : Prog} {r : Report} → IsFirstText content p → OfProgram content p r → (a : Reading) × IsOf content a r
 of_first_text text of =
-    (tree text.tree, record { reads = reads_tree text.short text.text; of = of_tree (finds_program text.program) (of_first text.form text.within of) })
+    let is = text.text in
+    (tree is.tree, record { reads = reads_tree is.short is.text; of = of_tree (finds_program is.program) (of_first text.form text.within of) })
 
 of_limit : {content : List ℕ} {l : LimitName} → IsPastLimit content l → (a : Reading) × IsOf content a (Limit l)
 of_limit (past_bytes long) = (too_long, record { reads = reads_too_long long; of = of_too_long })
@@ -160,7 +163,9 @@ is_of content (Rule rule pos) h =
     let stands : OfFound content (broken h.fault) (Rule rule pos) = subst (λ pos. OfFound content (broken h.fault) (Rule rule pos)) (sym h.stands) told in
     (tree h.tree, record { reads = reads_tree h.short h.text; of = of_tree (finds_broken h.first) stands })
 is_of content NotYet h =
-    (tree h.tree, record { reads = reads_tree h.short h.text; of = of_tree (finds_program h.has) (of_other h.other) })
+    let is = h.text in
+    (tree is.tree, record { reads = reads_tree is.short is.text; of = of_tree (finds_program is.program) (of_other h.other) })
+is_of content (Schedule ending line) h = absurd h
 
 pub one_report : OneProgram → (content : List ℕ) (r s : Report) → IsReportOf content r → IsReportOf content s → r ≡ s
 one_report one content r s h g =
@@ -168,3 +173,39 @@ one_report one content r s h g =
     let (b, also) = is_of content s g in
     let same : a ≡ b = one_reading is.reads also.reads in
     one_of_reading one is.of (subst (λ a. OfReading content a s) (sym same) also.of)
+
+-- ---- refusals
+
+-- what refuses a text is what is told of it
+pub as_report : (content : List ℕ) (r : Report) → IsRefusalOf content r → IsReportOf content r
+as_report content (Verified n) h = absurd h
+as_report content (Unproved n lines) h = absurd h
+as_report content Usage h = absurd h
+as_report content (Lex f pos) h = h
+as_report content (Syntax pos) h = h
+as_report content (Limit l) h = h
+as_report content (Rule rule pos) h = h
+as_report content NotYet h = absurd h
+as_report content (Schedule ending line) h = absurd h
+
+told_of_program : {content : List ℕ} {p : Prog} {r : Report} → OfFound content (program p) r → IsRefusalOf content r → ⊥
+told_of_program (of_first form within (of_safe safe)) h = h
+told_of_program (of_first form within (of_unsafe named some)) h = h
+told_of_program (of_other other) h = h
+
+told_of_tree : {content : List ℕ} {t : List DeclTree} {p : Prog} {r : Report} → OneProgram → HasProgram t p → OfReading content (tree t) r → IsRefusalOf content r → ⊥
+told_of_tree {content = content} {r = r} one has (of_tree finds of) h =
+    told_of_program (subst (λ a. OfFound content a r) (one_found one finds (finds_program has)) of) h
+
+-- a text with a program isn't refused
+pub not_refused : OneProgram → (content : List ℕ) (p : Prog) (r : Report) → IsProgramText content p → IsRefusalOf content r → ⊥
+not_refused one content p r text h =
+    let (a, is) = is_of content r (as_report content r h) in
+    let same : a ≡ tree text.tree = one_reading is.reads (reads_tree text.short text.text) in
+    told_of_tree one text.program (subst (λ a. OfReading content a r) same is.of) h
+
+-- a text has one program
+pub one_program_text : OneProgram → (content : List ℕ) (p q : Prog) → IsProgramText content p → IsProgramText content q → p ≡ q
+one_program_text one content p q text also =
+    let same : also.tree ≡ text.tree = one_tree also.text text.text in
+    one text.tree p q text.program.0 (subst (λ t. HasProgram t q) same also.program).0

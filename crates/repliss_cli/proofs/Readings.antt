@@ -108,7 +108,7 @@ one_reading (reads_tree s f) (reads_tree r g) = ap tree (one_tree f g)
 
 -- ---- each text reads in some way
 
-short_or_long : (m n : ℕ) → (n < m) ⊎ (m ≤ n)
+pub short_or_long : (m n : ℕ) → (n < m) ⊎ (m ≤ n)
 short_or_long m n = elim (dec_le m n) [ yes short ↦ inr short | no long ↦ inl (omega (arith, long)) ]
 
 -- the k-th of some tokens stands somewhere

@@ -23,8 +23,10 @@ use Rattle.rp_parser.specs.declared.error.ParseErr.TheVariants as parse_err
 use Rattle.rp_verify.specs.Verdicts.{proc_paths, HasFewPaths, IsPast, IsWithinLimits}
 use Rattle.rp_verify.specs.declared.verdict.GoalErr.{GoalErr}
 use Rattle.rp_verify.specs.declared.verdict.GoalErr.TheVariants as err
+use Rattle.repliss_cli.specs.ProgramText.{IsProgramText}
 use Rattle.repliss_cli.specs.FirstText.{IsFirstText}
-use Rattle.repliss_cli.specs.Answers.{IsSyntaxFault, IsTooDeepText, IsBrokenText, IsLimitText, IsOtherText}
+use Rattle.repliss_cli.specs.Refusals.{IsSyntaxFault, IsTooDeepText, IsBrokenText, IsLimitText}
+use Rattle.repliss_cli.specs.Answers.{IsOtherText}
 use Rattle.repliss_cli.proofs.Readings.{some_place}
 
 -- as many as the tokens
@@ -76,23 +78,23 @@ past_limits p (err.Paths n) first other within = let (q, is, past) = first.past 
 past_limits p err.Goals (few, many) other within = let few = within.few_goals in omega (arith, many, few)
 past_limits p err.Memory first other within = other refl
 
--- a text, and its program
-abbrev pub IsTextOf : List ℕ → Prog → Type 0
-IsTextOf content p = (t : List DeclTree) × IsTextWithin 64 content t × HasProgram t p
+-- a text with this tree, and its program
+pub program_text : {content : List ℕ} {t : List DeclTree} {p : Prog} → length content ≤ 262144 → IsTextWithin 64 content t → HasProgram t p → IsProgramText content p
+program_text {t = t} short text has = record { short = short; tree = t; text = text; program = has }
 
 -- the text's program is of the first form and within the limits
-pub first_text : {content : List ℕ} {p : Prog} → length content ≤ 262144 → IsTextOf content p → IsFirstForm p → IsWithinLimits p → IsFirstText content p
-first_text short (t, text, has) form within = record { short = short; tree = t; text = text; program = has; form = form; within = within }
+pub first_text : {content : List ℕ} {p : Prog} → IsProgramText content p → IsFirstForm p → IsWithinLimits p → IsFirstText content p
+first_text text form within = record { text = text; form = form; within = within }
 
 -- it isn't both
-pub other_text : {content : List ℕ} {p : Prog} → length content ≤ 262144 → IsTextOf content p → (IsFirstForm p → IsWithinLimits p → ⊥) → IsOtherText content
-other_text {p = p} short (t, text, has) other = record { short = short; tree = t; text = text; program = p; has = has; other = other }
+other_text : {content : List ℕ} {p : Prog} → IsProgramText content p → (IsFirstForm p → IsWithinLimits p → ⊥) → IsOtherText content
+other_text {p = p} text other = record { program = p; text = text; other = other }
 
-pub past_text : {content : List ℕ} {p : Prog} → length content ≤ 262144 → IsTextOf content p → (IsWithinLimits p → ⊥) → IsOtherText content
-past_text short is past = other_text short is (λ form. past)
+pub past_text : {content : List ℕ} {p : Prog} → IsProgramText content p → (IsWithinLimits p → ⊥) → IsOtherText content
+past_text text past = other_text text (λ form. past)
 
-pub unlike_text : {content : List ℕ} {p : Prog} → length content ≤ 262144 → IsTextOf content p → (IsFirstForm p → ⊥) → IsOtherText content
-unlike_text short is unlike = other_text short is (λ form. absurd (unlike form))
+pub unlike_text : {content : List ℕ} {p : Prog} → IsProgramText content p → (IsFirstForm p → ⊥) → IsOtherText content
+unlike_text text unlike = other_text text (λ form. absurd (unlike form))
 
 -- the first fault that was found is that of the text
 pub broken_text : {content : List ℕ} {t : List DeclTree} {f : Fault}

@@ -10,7 +10,7 @@ use Rattle.repliss_cli.proofs.OneReport as one
 use Rattle.repliss_cli.proofs.SomeReport as some
 use Rattle.repliss_cli.proofs.SomeReport.{SomeProgram}
 
-one_program : (t : List DeclTree) (p q : Prog) → IsProgramOf t p → IsProgramOf t q → p ≡ q
+pub one_program : (t : List DeclTree) (p q : Prog) → IsProgramOf t p → IsProgramOf t q → p ≡ q
 one_program t p q is also = programs.one_program t p q is.1 also.1
 
 pub one_report : (content : List ℕ) (r s : Report) → IsReportOf content r → IsReportOf content s → r ≡ s

@@ -12,7 +12,7 @@ use Rattle.event_machine.specs.Goals.{goals}
 use Rattle.event_machine.proofs.TestLemmas as tests
 use Rattle.first_form.proofs.Bare.{first_form_or_not}
 use Rattle.desugaring.specs.Programs.{IsProgramOf}
-use Rattle.desugaring.specs.Limits.{first_limit, HasProgram}
+use Rattle.desugaring.specs.Limits.{first_limit}
 use Rattle.type_rules.specs.declared.fault.Fault.{Fault}
 use Rattle.type_rules.specs.Faults.{IsFirstFault, IsLawful, first_fault}
 use Rattle.type_rules.proofs.Least.{fault_least}
@@ -21,8 +21,10 @@ use Rattle.rp_verify.specs.declared.verdict.Unproved as found
 use Rattle.rp_verify.proofs.SafeFound.{safe_none_found}
 use Rattle.repliss_cli.specs.declared.report.Report.{Report}
 use Rattle.repliss_cli.specs.declared.report.Report.TheVariants.{Verified, Unproved, Lex, Syntax, Limit, Rule, NotYet}
+use Rattle.repliss_cli.specs.ProgramText.{IsProgramText}
 use Rattle.repliss_cli.specs.FirstText.{IsFirstText}
-use Rattle.repliss_cli.specs.Answers.{past_bytes, past_nesting, past_program, IsReportOf}
+use Rattle.repliss_cli.specs.Refusals.{past_bytes, past_nesting, past_program}
+use Rattle.repliss_cli.specs.Answers.{IsReportOf}
 use Rattle.repliss_cli.specs.means.Lines.{line_for}
 use Rattle.repliss_cli.proofs.Named.{Tells, unproved_report}
 use Rattle.repliss_cli.proofs.Readings.{Reading, too_long, faulty, bad, too_deep, tree, Reads, reads_too_long, reads_faulty, reads_bad, reads_too_deep, reads_tree, some_reading}
@@ -81,14 +83,11 @@ verified_or_not content p text (u ∷ us) is = (
   unproved_report tells content p (length (goals p)) (unproved p) (map (line_for content p) (unproved p)) text refl refl (λ none. let e : [] ≡ u ∷ us = sym none ∙ is in cc) refl,
 )
 
-first_or_other : (content : List ℕ) (t : List DeclTree) (p : Prog) → Reads content (tree t) → HasProgram t p
+first_or_other : (content : List ℕ) (p : Prog) → IsProgramText content p
     → IsFirstForm p ⊎ (IsFirstForm p → ⊥) → IsWithinLimits p ⊎ (IsWithinLimits p → ⊥) → (r : Report) × IsReportOf content r
-first_or_other content t p (reads_tree short text) has (inl form) (inl within) =
-    verified_or_not content p (record { short = short; tree = t; text = text; program = has; form = form; within = within }) (unproved p) refl
-first_or_other content t p (reads_tree short text) has (inl form) (inr many) =
-    (NotYet, record { short = short; tree = t; text = text; program = p; has = has; other = λ form. many })
-first_or_other content t p (reads_tree short text) has (inr unlike) within =
-    (NotYet, record { short = short; tree = t; text = text; program = p; has = has; other = λ form. absurd (unlike form) })
+first_or_other content p text (inl form) (inl within) = verified_or_not content p (record { text = text; form = form; within = within }) (unproved p) refl
+first_or_other content p text (inl form) (inr many) = (NotYet, record { program = p; text = text; other = λ form. many })
+first_or_other content p text (inr unlike) within = (NotYet, record { program = p; text = text; other = λ form. absurd (unlike form) })
 
 of_found : (content : List ℕ) (t : List DeclTree) (a : Found) → Reads content (tree t) → Finds t a → (r : Report) × IsReportOf content r
 of_found content t (broken f) (reads_tree short text) (finds_broken first) = (
@@ -97,7 +96,8 @@ of_found content t (broken f) (reads_tree short text) (finds_broken first) = (
 )
 of_found content t (past l) (reads_tree short text) (finds_past passes) =
     (Limit l, past_program (record { short = short; tree = t; text = text; passes = passes }))
-of_found content t (program p) reads (finds_program has) = first_or_other content t p reads has (first_form_or_not p) (within_or_not p)
+of_found content t (program p) (reads_tree short text) (finds_program has) =
+    first_or_other content p (record { short = short; tree = t; text = text; program = has }) (first_form_or_not p) (within_or_not p)
 
 of_reading : (content : List ℕ) (a : Reading) → SomeProgram → Reads content a → (r : Report) × IsReportOf content r
 of_reading content too_long some (reads_too_long long) = (Limit limit.ProgramBytes, past_bytes long)

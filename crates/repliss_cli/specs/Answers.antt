@@ -1,35 +1,28 @@
 -- When each answer of the program may come, and what is put.
-use Rattle.std.specs.Prelude.{◌≡◌, ◌≢◌, ℕ, ◌+◌, ◌<◌, ◌≤◌, List, [], ◌∷◌, length, Option, IfSome, IsSome, slice_get}
+use Rattle.std.specs.Prelude.{◌≡◌, ◌≢◌, ◌⊎◌, ℕ, ◌+◌, ◌<◌, List, [], ◌∷◌, length, Contains, Option, IfSome, IsSome, slice_get}
 use Rattle.std.specs.Option.{option_map_or}
 use Rattle.std.specs.declared.option.Option.TheVariants.{None, Some}
-use Rattle.rp_lang.specs.declared.limit.LimitName.{LimitName}
-use Rattle.rp_lang.specs.declared.limit.LimitName.TheVariants as limit
 use Rattle.rp_lang.specs.FirstForm.{IsFirstForm}
 use Rattle.rp_lang.specs.Programs.{Prog}
 use Rattle.rp_io.specs.Files.{Contents, content_of}
 use Rattle.rp_io.specs.Sinks.{Puts, PutsPrefix}
-use Rattle.rp_grammar.specs.declared.LexFault.{LexFault}
-use Rattle.rp_grammar.specs.Lexed.{Faulty}
-use Rattle.rp_grammar.specs.Trees.{DeclTree}
-use Rattle.rp_grammar.specs.Texts.{IsTextWithin, IsBadAt, IsTooDeepAt}
-use Rattle.type_rules.specs.declared.fault.Fault.{Fault}
-use Rattle.type_rules.specs.Faults.{IsFirstFault}
-use Rattle.desugaring.specs.Limits.{HasProgram, PassesLimit}
 use Rattle.event_machine.specs.Runs.{IsSafe}
-use Rattle.rp_span.specs.declared.Pos.{Pos}
 use Rattle.rp_span.specs.Places.{place_of}
 use Rattle.rp_verify.specs.Verdicts.{IsWithinLimits}
 use Rattle.event_machine.specs.Goals.{Goal, goals, path, IsFalseGoal}
 use Rattle.repliss_cli.specs.declared.report.GoalLine.{GoalLine}
 use Rattle.repliss_cli.specs.declared.report.Report.{Report}
-use Rattle.repliss_cli.specs.declared.report.Report.TheVariants.{Verified, Unproved, Usage, Lex, Syntax, Limit, Rule, NotYet}
+use Rattle.repliss_cli.specs.declared.report.Report.TheVariants.{Verified, Unproved, Usage, NotYet}
 use Rattle.repliss_cli.specs.declared.report.Status.{Status}
 use Rattle.repliss_cli.specs.declared.report.Status.TheVariants.{ReadFault, WriteFault, NoMemory}
 use Rattle.repliss_cli.specs.Texts.{report_text, status_of}
-use Rattle.repliss_cli.specs.Words.{Words, named}
+use Rattle.repliss_cli.specs.Words.{Words, Command, Verify, Replay, asked, named, program_file}
+use Rattle.repliss_cli.specs.ProgramText.{IsProgramText, IsSomeProgram}
 use Rattle.repliss_cli.specs.FirstText.{IsFirstText}
+use Rattle.repliss_cli.specs.Refusals.{IsRefusalOf}
+use Rattle.repliss_cli.specs.Replays.{IsReplayOf}
 
--- ---- the causes of reports
+-- ---- the causes of reports of `verify`
 
 -- The bytes are a text of the first form whose program is safe in every run of the machine, and it has so many goals.
 pub record IsVerified (content : List ℕ) (count : ℕ) : Type 0 where
@@ -62,87 +55,51 @@ pub record IsUnproved (content : List ℕ) (count : ℕ) (lines : List GoalLine)
   pub some : lines ≢ []
   pub counts : count ≡ length (goals program)
 
--- The first fault among the tokens of the bytes is of this kind, and stands there.
-pub record IsLexFault (content : List ℕ) (fault : LexFault) (pos : Pos) : Type 0 where
-  pub short : length content ≤ 262144
-  pub at : ℕ
-  pub faulty : Faulty 0 content at fault
-  pub stands : pos ≡ place_of content at
-
--- There stands the first token that can't follow in a program, and no earlier one is nested deeper than 64.
-pub record IsSyntaxFault (content : List ℕ) (pos : Pos) : Type 0 where
-  pub short : length content ≤ 262144
-  pub at : ℕ
-  pub bad : IsBadAt 64 content at
-  pub stands : pos ≡ place_of content at
-
--- The bytes up to some token begin a program, and that token is the first that is nested deeper than 64.
-pub record IsTooDeepText (content : List ℕ) : Type 0 where
-  pub short : length content ≤ 262144
-  pub at : ℕ
-  pub deep : IsTooDeepAt 64 content at
-
--- The first broken type rule of the text is this one, and there stands the token at which the offending item begins.
-pub record IsBrokenText (content : List ℕ) (rule : ℕ) (pos : Pos) : Type 0 where
-  pub short : length content ≤ 262144
-  pub tree : List DeclTree
-  pub text : IsTextWithin 64 content tree
-  pub fault : Fault
-  pub first : IsFirstFault tree (Some fault)
-  pub broken : rule ≡ fault.rule
-  pub stands : pos ≡ place_of content fault.span.from
-
--- The bytes are a program's text, and the first limit that its program passes is this one.
-pub record IsLimitText (content : List ℕ) (passed : LimitName) : Type 0 where
-  pub short : length content ≤ 262144
-  pub tree : List DeclTree
-  pub text : IsTextWithin 64 content tree
-  pub passes : PassesLimit tree passed
-
--- The limit that the bytes pass: on their number, on the nesting of their tokens, or on programs.
-pub data IsPastLimit (content : List ℕ) : LimitName → Type 0 where
-  past_bytes : 262144 < length content → IsPastLimit content limit.ProgramBytes
-  past_nesting : IsTooDeepText content → IsPastLimit content limit.Depth
-  past_program : {passed : LimitName} → IsLimitText content passed → IsPastLimit content passed
-
--- The bytes are the text of a program within all limits on programs, and not of the first form.
+-- The bytes are the text of a program, and not of the first form.
 pub record IsOtherText (content : List ℕ) : Type 0 where
-  pub short : length content ≤ 262144
-  pub tree : List DeclTree
-  pub text : IsTextWithin 64 content tree
   pub program : Prog
-  pub has : HasProgram tree program
+  pub text : IsProgramText content program
   -- it isn't over truth values, or has too many paths or goals
   pub other : IsFirstForm program → IsWithinLimits program → ⊥
 
--- the content of the named file is such: that which the files tell, or, where they don't, some content
+-- the cause of the report on what `verify` finds in these bytes
+abbrev pub IsReportOf : List ℕ → Report → Type 0
+IsReportOf content (Verified count) = IsVerified content count
+IsReportOf content (Unproved count lines) = IsUnproved content count lines
+IsReportOf content NotYet = IsOtherText content
+IsReportOf content report = IsRefusalOf content report
+
+-- ---- from the words on
+
+-- the content of a file is such: that which the files tell, or, where they don't, some content
 abbrev pub OnContent : Option (List ℕ) → (List ℕ → Type 0) → Type 0
 OnContent None P = (content : List ℕ) × P content
 OnContent (Some content) P = P content
 
-abbrev pub OnName : Option (List ℕ) → Option Contents → (List ℕ → Type 0) → Type 0
-OnName None told P = ⊥
-OnName (Some name) told P = OnContent (content_of told name) P
+-- what the command finds, of the content of the program's file
+abbrev pub IsReportFrom : List ℕ → Option Contents → Command → Report → Type 0
+IsReportFrom content told (Verify file) report = IsReportOf content report
+IsReportFrom content told (Replay file schedule) report = OnContent (content_of told schedule) (λ bytes. IsReplayOf content bytes report)
 
--- the report's cause stands in these bytes
-abbrev pub IsReportOf : List ℕ → Report → Type 0
-IsReportOf content (Verified count) = IsVerified content count
-IsReportOf content (Unproved count lines) = IsUnproved content count lines
-IsReportOf content Usage = ⊥
-IsReportOf content (Lex fault pos) = IsLexFault content fault pos
-IsReportOf content (Syntax pos) = IsSyntaxFault content pos
-IsReportOf content (Limit passed) = IsPastLimit content passed
-IsReportOf content (Rule rule pos) = IsBrokenText content rule pos
-IsReportOf content NotYet = IsOtherText content
+-- what is told of a command, and the usage where none is asked
+abbrev pub IsReportFor : Option Command → Option Contents → Report → Type 0
+IsReportFor None told report = report ≡ Usage
+IsReportFor (Some command) told report = OnContent (content_of told (program_file command)) (λ content. IsReportFrom content told command report)
 
--- The report's cause stands: other words than `verify FILE`, or the content of the file.
+-- The report's cause stands: other words than a command's, or the contents of the files that they name.
 abbrev pub HasCause : Words → Option Contents → Report → Type 0
-HasCause words told Usage = named words ≡ None
-HasCause words told report = OnName (named words) told (λ content. IsReportOf content report)
+HasCause words told report = IsReportFor (asked words) told report
 
--- The words name no file, or one whose content the files tell.
+-- the files tell the contents of those that are named
 abbrev pub AreTold : Words → Option Contents → Type 0
-AreTold words told = IfSome (named words) (λ name. IsSome (content_of told name))
+AreTold words told = (file : List ℕ) → Contains (named words) file → IsSome (content_of told file)
+
+-- A file that is read isn't one that the files call sound: that of the program, or, behind a program's text, that of the schedule.
+abbrev pub ReadsUnsound : Option Command → Option Contents → List (List ℕ) → Type 0
+ReadsUnsound None told sound = ⊥
+ReadsUnsound (Some (Verify file)) told sound = Contains sound file → ⊥
+ReadsUnsound (Some (Replay file schedule)) told sound =
+    (Contains sound file → ⊥) ⊎ ((Contains sound schedule → ⊥) × OnContent (content_of told file) IsSomeProgram)
 
 -- ---- what is put
 

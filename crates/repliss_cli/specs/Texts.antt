@@ -5,11 +5,13 @@ use Rattle.rp_lang.specs.declared.limit.LimitName.{LimitName}
 use Rattle.rp_lang.specs.Limits.{limit_text, limit_number}
 use Rattle.rp_grammar.specs.declared.LexFault.{LexFault}
 use Rattle.rp_grammar.specs.declared.LexFault.TheVariants.{BadByte, OpenString, NumberRange}
+use Rattle.repliss_cli.specs.declared.report.Ending.{Ending}
+use Rattle.repliss_cli.specs.declared.report.Ending.TheVariants as ending
 use Rattle.repliss_cli.specs.declared.report.GoalLine.{GoalLine}
 use Rattle.repliss_cli.specs.declared.report.Status.{Status}
 use Rattle.repliss_cli.specs.declared.report.Status.TheVariants.{Fine, Found, Refused, ReadFault, WriteFault, NoMemory}
 use Rattle.repliss_cli.specs.declared.report.Report.{Report}
-use Rattle.repliss_cli.specs.declared.report.Report.TheVariants.{Verified, Unproved, Usage, Lex, Syntax, Limit, Rule, NotYet}
+use Rattle.repliss_cli.specs.declared.report.Report.TheVariants.{Verified, Unproved, Usage, Lex, Syntax, Limit, Rule, NotYet, Schedule}
 
 -- the end of a line that counts goals: `s` is left out after 1 alone
 abbrev pub goals_end : ℕ → List ℕ
@@ -51,16 +53,26 @@ rule_line rule pos = codes "refused: type T" ++ (zero_before rule ++ (decimal ru
 abbrev pub limit_line : LimitName → List ℕ
 limit_line limit = codes "refused: limit " ++ (limit_text limit ++ (codes " " ++ (decimal (limit_number limit) ++ codes "\n")))
 
+-- a line for each command
+abbrev pub usage_lines : List ℕ
+usage_lines = codes "usage: repliss verify FILE\n" ++ codes "usage: repliss replay FILE SCHEDULE\n"
+
 -- the bytes of a report
 abbrev pub report_text : Report → List ℕ
 report_text (Verified goals) = verified_line goals
 report_text (Unproved goals list) = unproved_line (length list) goals ++ flat_map goal_line list
-report_text Usage = codes "refused: usage\n" ++ codes "usage: repliss verify FILE\n"
+report_text Usage = codes "refused: usage\n" ++ usage_lines
 report_text (Lex fault pos) = codes "refused: lex " ++ (fault_name fault ++ place_text pos)
 report_text (Syntax pos) = codes "refused: syntax" ++ place_text pos
 report_text (Limit limit) = limit_line limit
 report_text (Rule rule pos) = rule_line rule pos
 report_text NotYet = codes "refused: not yet\n"
+report_text (Schedule ending line) = line
+
+abbrev pub status_of_ending : Ending → Status
+status_of_ending ending.Clean = Fine
+status_of_ending ending.Violated = Found
+status_of_ending ending.Refused = Refused
 
 -- how the command ends that puts it
 abbrev pub status_of : Report → Status
@@ -72,6 +84,7 @@ status_of (Syntax pos) = Refused
 status_of (Limit limit) = Refused
 status_of (Rule rule pos) = Refused
 status_of NotYet = Refused
+status_of (Schedule ending line) = status_of_ending ending
 
 -- the number with which the process ends
 abbrev pub number_of : Status → ℕ

@@ -4,8 +4,12 @@
 mod judge;
 pub mod laws;
 mod places;
+mod replays;
 mod report;
+mod sources;
+mod texts;
 mod top;
+mod words;
 
 pub use report::Status;
 pub use top::run;

@@ -1,7 +1,7 @@
 // Reports, their statuses and their lines.
 ghost use Rattle.std.specs.Prelude.{◌≡◌, ◌++◌, ◌∷◌, [], codes, decimal, flat_map, length, string_bytes, IfOk, OnOk};
 ghost use Rattle.rp_io.specs.Sinks.{bytes_of};
-ghost use Rattle.repliss_cli.specs.Texts.{goal_line, choice_text, fault_name, goals_end, path_text, limit_line, place_text, report_text, rule_line, status_of, number_of, unproved_line, verified_line, zero_before};
+ghost use Rattle.repliss_cli.specs.Texts.{goal_line, choice_text, fault_name, goals_end, path_text, limit_line, place_text, report_text, rule_line, status_of, status_of_ending, number_of, unproved_line, usage_lines, verified_line, zero_before};
 
 use rp_lang::LimitName;
 use rp_lexer::LexFault;
@@ -45,6 +45,27 @@ pub struct GoalLine {
     pub at: Pos,
 }
 
+/// How a schedule ends, or that it is refused.
+#[derive(Clone, Copy)]
+pub enum Ending {
+    Clean,
+    Violated,
+    Refused,
+}
+
+impl Ending {
+    /// How a replay is answered that ends so.
+    fn status(self) -> Status
+        ensures { result ≡ status_of_ending self }
+    {
+        match self {
+            Ending::Clean => Status::Fine,
+            Ending::Violated => Status::Found,
+            Ending::Refused => Status::Refused,
+        }
+    }
+}
+
 /// What a command tells.
 #[derive(Drop)]
 pub enum Report {
@@ -60,6 +81,8 @@ pub enum Report {
     /// The first broken type rule, by its number, and where the offending item begins.
     Rule { rule: u8, at: Pos },
     NotYet,
+    /// How a replay ends, and the line that says it.
+    Schedule { ending: Ending, line: Bytes },
 }
 
 impl Report {
@@ -76,6 +99,7 @@ impl Report {
             | Report::Limit(_)
             | Report::Rule { .. }
             | Report::NotYet => Status::Refused,
+            Report::Schedule { ending, .. } => ending.status(),
         }
     }
 }
@@ -141,12 +165,19 @@ fn line_of_goal(alloc: Global, goal: &GoalLine) -> Result<Vec<u8>, Memory>
     Ok(line)
 }
 
+/// Adds the bytes of a line.
+fn add_bytes(alloc: Global, lines: &mut Vec<Vec<u8>>, line: &[u8]) -> Result<(), Memory>
+    ensures { OnOk result (bytes_of lines.new.items ≡ bytes_of lines.old.items ++ line.now) }
+{
+    lines.push(line.to_vec(alloc)?)?;
+    Ok(())
+}
+
 /// Adds a line.
 fn add_line(alloc: Global, lines: &mut Vec<Vec<u8>>, line: &str) -> Result<(), Memory>
     ensures { OnOk result (bytes_of lines.new.items ≡ bytes_of lines.old.items ++ line.now) }
 {
-    lines.push(line.as_bytes().to_vec(alloc)?)?;
-    Ok(())
+    add_bytes(alloc, lines, line.as_bytes())
 }
 
 /// Adds the lines of unproved goals.
@@ -257,6 +288,16 @@ fn add_unproved(
     add_goals(alloc, lines, list)
 }
 
+/// Adds the lines of the usage, one for each command.
+fn add_usage(alloc: Global, lines: &mut Vec<Vec<u8>>) -> Result<(), Memory>
+    ensures { OnOk result (bytes_of lines.new.items
+        ≡ bytes_of lines.old.items ++ (codes "refused: usage\n" ++ usage_lines)) }
+{
+    add_line(alloc, lines, "refused: usage\n")?;
+    add_line(alloc, lines, "usage: repliss verify FILE\n")?;
+    add_line(alloc, lines, "usage: repliss replay FILE SCHEDULE\n")
+}
+
 /// Adds the lines of a report.
 fn add_lines(alloc: Global, lines: &mut Vec<Vec<u8>>, report: &Report) -> Result<(), Memory>
     ensures { OnOk result (bytes_of lines.new.items ≡ bytes_of lines.old.items ++ report_text report.now) }
@@ -268,10 +309,7 @@ fn add_lines(alloc: Global, lines: &mut Vec<Vec<u8>>, report: &Report) -> Result
             verified_line(alloc, *goals)?.as_str(),
         ),
         Report::Unproved { goals, list } => add_unproved(alloc, lines, *goals, list.as_slice()),
-        Report::Usage => {
-            add_line(alloc, lines, "refused: usage\n")?;
-            add_line(alloc, lines, "usage: repliss verify FILE\n")
-        }
+        Report::Usage => add_usage(alloc, lines),
         Report::Lex { fault, at } => add_line(alloc, lines, lex_line(alloc, *fault, at)?.as_str()),
         Report::Syntax { at } => add_line(
             alloc,
@@ -281,6 +319,7 @@ fn add_lines(alloc: Global, lines: &mut Vec<Vec<u8>>, report: &Report) -> Result
         Report::Limit(limit) => add_line(alloc, lines, limit_line(alloc, *limit)?.as_str()),
         Report::Rule { rule, at } => add_line(alloc, lines, rule_line(alloc, *rule, at)?.as_str()),
         Report::NotYet => add_line(alloc, lines, "refused: not yet\n"),
+        Report::Schedule { line, .. } => add_bytes(alloc, lines, line.as_slice()),
     }
 }
 

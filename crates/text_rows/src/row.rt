@@ -133,6 +133,20 @@ impl<'a> Row<'a> {
         Ok(text)
     }
 
+    /// The schedule: its parts, one behind the other, if a line says any.
+    pub fn schedule(&self, alloc: Global) -> Result<Option<Vec<u8>>, Memory> {
+        let mut text = Vec::new(alloc);
+        let mut is_said = false;
+        for line in self.lines.split('\n') {
+            if let Some(part) = behind(line, "schedule") {
+                if add_part(alloc, &mut text, part)? {
+                    is_said = true;
+                }
+            }
+        }
+        Ok(if is_said { Some(text) } else { None })
+    }
+
     /// What all lines say that begin with the word, each in a line of its own.
     pub fn lines(&self, alloc: Global, word: &str) -> Result<Vec<u8>, Memory> {
         let mut lines = Vec::new(alloc);
