@@ -87,3 +87,11 @@ pub fn unreturned_con(p: &Program) -> Result<u32, Memory>
 {
     info_con(p, p.procs.count())
 }
+
+/// The constructor of the outcomes of the procedure of this number.
+pub fn outcome_con(p: &Program, proc: u32) -> Result<u32, Memory>
+    ensures { IfOk result (λ n. n ≡ spec.outcome_con (program_view p.now) proc) }
+{
+    let first = plus(unreturned_con(p)?, 1)?;
+    plus(first, proc)
+}
