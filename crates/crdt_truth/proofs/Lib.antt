@@ -1,3 +1,4 @@
 pub mod OpenViews
 pub mod ListValues
 pub mod RangeLemmas
+pub mod DoneLemmas

@@ -3,3 +3,4 @@ pub mod Open
 pub mod Meanings
 pub mod Within
 pub mod Breadths
+pub mod means

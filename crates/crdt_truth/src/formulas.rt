@@ -3,11 +3,13 @@ ghost use Rattle.std.specs.Prelude.{◌≡◌, ◌<◌, IfOk, true, not, ◌&&�
 ghost use Rattle.rp_value.specs.ValueView.{value_view, values_view};
 ghost use Rattle.crdt_truth.specs.Meanings.{no_vals};
 ghost use Rattle.rp_lang.specs.Views.{expr_view, formula_view, formulas_view, arms_view};
+ghost use Rattle.crdt_defs.specs.Calls.{calls_view};
 ghost use Rattle.crdt_defs.specs.Parts as parts;
 ghost use Rattle.crdt_defs.specs.Parts.{each_member, some_member};
 ghost use Rattle.crdt_defs.specs.Truths as spec;
 ghost use Rattle.crdt_truth.specs.Open.{binders_view};
 ghost use Rattle.crdt_truth.specs.Readings.{parts_view, reading_view};
+ghost use Rattle.crdt_truth.specs.means.Done.{AreDone, IsReady};
 ghost use Rattle.crdt_truth.specs.Within.{ExWithin, FoWithin, EachWithin, FosWithin, ArmWithin};
 
 use crate::binders::Binders;
@@ -17,7 +19,7 @@ use crate::numbers::number;
 use crate::ranges::{bound, is_before, is_in_range, is_same, is_visible, member};
 use crate::reading::Reading;
 use rp_lang::{Arm, Expr, Formula};
-use rp_value::{Memory, Ty, Value};
+use rp_value::{List, Memory, Ty, Value};
 use std::alloc::Global;
 
 fn are_none(values: &[Value]) -> bool
@@ -117,10 +119,12 @@ fn sees(alloc: Global, r: &Reading, binders: &Binders, call: &Expr) -> Result<bo
 fn comes_before(
     alloc: Global,
     r: &Reading,
+    done: &[List<u32>],
     binders: &Binders,
     a: &Expr,
     b: &Expr,
 ) -> Result<bool, Memory>
+    requires done { AreDone (parts_view r.now) (length (calls_view r.now.history.now)) done.now }
     requires left { ExWithin (reading_view r.now) (binders_view binders.now) (expr_view a.now) }
     requires right { ExWithin (reading_view r.now) (binders_view binders.now) (expr_view b.now) }
     ensures { IfOk result (λ t. t
@@ -129,7 +133,7 @@ fn comes_before(
 {
     let left = value(alloc, r, binders, a)?;
     let right = value(alloc, r, binders, b)?;
-    Ok(is_before(r, &left, &right))
+    Ok(is_before(r, done, &left, &right))
 }
 
 fn are_of_one(
@@ -153,33 +157,39 @@ fn are_of_one(
 /// Whether the formula is true at these open variables, where each sum and difference that it may come to has 128 bits.
 #[cycle(truth)]
 #[tactic(auto, using(rp_lang::proofs::FormulaViews::formula_views, crate::proofs::OpenViews::binders_views))]
-pub fn truth(alloc: Global, r: &Reading, binders: &Binders, f: &Formula) -> Result<bool, Memory>
-    requires few { length r.now.infos.now < 4294967296 }
+pub(crate) fn truth(
+    alloc: Global,
+    r: &Reading,
+    done: &[List<u32>],
+    binders: &Binders,
+    f: &Formula,
+) -> Result<bool, Memory>
+    requires ready { IsReady r.now done.now }
     requires within { FoWithin (reading_view r.now) (binders_view binders.now) (formula_view f.now) }
     ensures { IfOk result (λ t. t ≡ spec.truth (reading_view r.now) (binders_view binders.now) (formula_view f.now)) }
 {
     match f {
-        Formula::And(parts) => all_true(alloc, r, binders, parts.as_slice()),
-        Formula::Or(parts) => any_true(alloc, r, binders, parts.as_slice()),
-        Formula::Not(part) => Ok(!truth(alloc, r, binders, part.get())?),
+        Formula::And(parts) => all_true(alloc, r, done, binders, parts.as_slice()),
+        Formula::Or(parts) => any_true(alloc, r, done, binders, parts.as_slice()),
+        Formula::Not(part) => Ok(!truth(alloc, r, done, binders, part.get())?),
         Formula::Implies(a, b) => {
-            if !truth(alloc, r, binders, a.get())? {
+            if !truth(alloc, r, done, binders, a.get())? {
                 return Ok(true);
             }
-            truth(alloc, r, binders, b.get())
+            truth(alloc, r, done, binders, b.get())
         }
-        Formula::All(over, body) => each_true(alloc, r, binders, *over, body.get()),
-        Formula::Any(over, body) => some_true(alloc, r, binders, *over, body.get()),
+        Formula::All(over, body) => each_true(alloc, r, done, binders, *over, body.get()),
+        Formula::Any(over, body) => some_true(alloc, r, done, binders, *over, body.get()),
         Formula::Holds(e) => holds(alloc, r, binders, e),
         Formula::Equal(a, b) => are_equal(alloc, r, binders, a, b),
         Formula::Less(a, b) => is_less(alloc, r, binders, a, b),
         Formula::AtMost(a, b) => is_at_most(alloc, r, binders, a, b),
         Formula::Visible(call) => sees(alloc, r, binders, call),
-        Formula::Before(a, b) => comes_before(alloc, r, binders, a, b),
+        Formula::Before(a, b) => comes_before(alloc, r, done, binders, a, b),
         Formula::Same(a, b) => are_of_one(alloc, r, binders, a, b),
         Formula::Match(on, arms) => {
             let on = value(alloc, r, binders, on)?;
-            arm_true(alloc, r, binders, &on, arms.as_slice())
+            arm_true(alloc, r, done, binders, &on, arms.as_slice())
         }
     }
 }
@@ -189,15 +199,16 @@ pub fn truth(alloc: Global, r: &Reading, binders: &Binders, f: &Formula) -> Resu
 fn all_true(
     alloc: Global,
     r: &Reading,
+    done: &[List<u32>],
     binders: &Binders,
     parts: &[Formula],
 ) -> Result<bool, Memory>
-    requires few { length r.now.infos.now < 4294967296 }
+    requires ready { IsReady r.now done.now }
     requires within { FosWithin (reading_view r.now) (binders_view binders.now) (formulas_view parts.now) }
     ensures { IfOk result (λ t. t ≡ spec.all_true (reading_view r.now) (binders_view binders.now) (formulas_view parts.now)) }
 {
     for part in parts {
-        if !truth(alloc, r, binders, part)? {
+        if !truth(alloc, r, done, binders, part)? {
             return Ok(false);
         }
     }
@@ -209,15 +220,16 @@ fn all_true(
 fn any_true(
     alloc: Global,
     r: &Reading,
+    done: &[List<u32>],
     binders: &Binders,
     parts: &[Formula],
 ) -> Result<bool, Memory>
-    requires few { length r.now.infos.now < 4294967296 }
+    requires ready { IsReady r.now done.now }
     requires within { FosWithin (reading_view r.now) (binders_view binders.now) (formulas_view parts.now) }
     ensures { IfOk result (λ t. t ≡ spec.any_true (reading_view r.now) (binders_view binders.now) (formulas_view parts.now)) }
 {
     for part in parts {
-        if truth(alloc, r, binders, part)? {
+        if truth(alloc, r, done, binders, part)? {
             return Ok(true);
         }
     }
@@ -230,12 +242,13 @@ fn any_true(
 fn is_kept(
     alloc: Global,
     r: &Reading,
+    done: &[List<u32>],
     binders: &Binders,
     over: Ty,
     n: u32,
     body: &Formula,
 ) -> Result<bool, Memory>
-    requires few { length r.now.infos.now < 4294967296 }
+    requires ready { IsReady r.now done.now }
     requires within { parts.is_in_range (parts_view r.now) over n ≡ true
         → FoWithin (reading_view r.now) (parts.member over n ∷ binders_view binders.now) (formula_view body.now) }
     ensures { IfOk result (λ t. t
@@ -246,7 +259,7 @@ fn is_kept(
         return Ok(true);
     }
     let one = member(alloc, over, n);
-    truth(alloc, r, &Binders::One(&one, &*binders), body)
+    truth(alloc, r, done, &Binders::One(&one, &*binders), body)
 }
 
 /// Whether the quantifier ranges over the one with this number, and the body is true of it.
@@ -255,12 +268,13 @@ fn is_kept(
 fn is_met(
     alloc: Global,
     r: &Reading,
+    done: &[List<u32>],
     binders: &Binders,
     over: Ty,
     n: u32,
     body: &Formula,
 ) -> Result<bool, Memory>
-    requires few { length r.now.infos.now < 4294967296 }
+    requires ready { IsReady r.now done.now }
     requires within { parts.is_in_range (parts_view r.now) over n ≡ true
         → FoWithin (reading_view r.now) (parts.member over n ∷ binders_view binders.now) (formula_view body.now) }
     ensures { IfOk result (λ t. t
@@ -271,7 +285,7 @@ fn is_met(
         return Ok(false);
     }
     let one = member(alloc, over, n);
-    truth(alloc, r, &Binders::One(&one, &*binders), body)
+    truth(alloc, r, done, &Binders::One(&one, &*binders), body)
 }
 
 #[cycle(truth)]
@@ -279,18 +293,19 @@ fn is_met(
 fn each_true(
     alloc: Global,
     r: &Reading,
+    done: &[List<u32>],
     binders: &Binders,
     over: Ty,
     body: &Formula,
 ) -> Result<bool, Memory>
-    requires few { length r.now.infos.now < 4294967296 }
+    requires ready { IsReady r.now done.now }
     requires within { EachWithin (reading_view r.now) (binders_view binders.now) over (formula_view body.now) }
     ensures { IfOk result (λ t. t
         ≡ each_member (parts_view r.now) over
         (λ v. spec.truth (reading_view r.now) (v ∷ binders_view binders.now) (formula_view body.now))) }
 {
     for n in 0..bound(r, over) {
-        if !is_kept(alloc, r, binders, over, n, body)? {
+        if !is_kept(alloc, r, done, binders, over, n, body)? {
             return Ok(false);
         }
     }
@@ -302,18 +317,19 @@ fn each_true(
 fn some_true(
     alloc: Global,
     r: &Reading,
+    done: &[List<u32>],
     binders: &Binders,
     over: Ty,
     body: &Formula,
 ) -> Result<bool, Memory>
-    requires few { length r.now.infos.now < 4294967296 }
+    requires ready { IsReady r.now done.now }
     requires within { EachWithin (reading_view r.now) (binders_view binders.now) over (formula_view body.now) }
     ensures { IfOk result (λ t. t
         ≡ some_member (parts_view r.now) over
         (λ v. spec.truth (reading_view r.now) (v ∷ binders_view binders.now) (formula_view body.now))) }
 {
     for n in 0..bound(r, over) {
-        if is_met(alloc, r, binders, over, n, body)? {
+        if is_met(alloc, r, done, binders, over, n, body)? {
             return Ok(true);
         }
     }
@@ -326,11 +342,12 @@ fn some_true(
 fn arm_true(
     alloc: Global,
     r: &Reading,
+    done: &[List<u32>],
     binders: &Binders,
     on: &Value,
     arms: &[Arm],
 ) -> Result<bool, Memory>
-    requires few { length r.now.infos.now < 4294967296 }
+    requires ready { IsReady r.now done.now }
     requires within { ArmWithin (reading_view r.now) (binders_view binders.now) (value_view on.now) (arms_view arms.now) }
     ensures { IfOk result (λ t. t
         ≡ spec.arm_true (reading_view r.now) (binders_view binders.now) (value_view on.now) (arms_view arms.now)) }
@@ -342,6 +359,7 @@ fn arm_true(
                     return truth(
                         alloc,
                         r,
+                        done,
                         &Binders::Fields(args.as_slice(), &*binders),
                         &arm.body,
                     );

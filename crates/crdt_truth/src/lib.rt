@@ -3,6 +3,7 @@
 
 mod binders;
 mod breadths;
+mod done;
 mod exprs;
 mod formulas;
 mod meaning;
@@ -10,9 +11,10 @@ mod numbers;
 mod ranges;
 mod reading;
 mod stored;
+mod truths;
 
 pub use binders::Binders;
 pub use breadths::breadth;
 pub use exprs::{value, values};
-pub use formulas::truth;
 pub use reading::{Info, Outcome, Reading};
+pub use truths::truth;

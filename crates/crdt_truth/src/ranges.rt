@@ -1,5 +1,5 @@
 // What quantifiers range over, and which of two calls or invocations is before the other.
-ghost use Rattle.std.specs.Prelude.{◌≡◌, ◌<◌, ◌≤◌, ◌&&◌, ◌||◌, not, nat_eq, length};
+ghost use Rattle.std.specs.Prelude.{◌≡◌, ◌<◌, ◌≤◌, ◌&&◌, ◌||◌, not, nat_eq, length, option_copied, slice_get};
 ghost use Rattle.rp_value.specs.ValueView.{value_view};
 ghost use Rattle.crdt_defs.specs.Calls.{calls_view};
 ghost use Rattle.crdt_defs.specs.Counting.{all_below};
@@ -8,11 +8,13 @@ ghost use Rattle.crdt_defs.specs.Parts as parts;
 ghost use Rattle.crdt_defs.specs.Snapshots.{bit};
 ghost use Rattle.crdt_defs.specs.Truths as spec;
 ghost use Rattle.crdt_truth.specs.Readings.{parts_view, reading_view};
+ghost use Rattle.crdt_truth.specs.means.Done.{AreDone};
 
+use crate::done::lists_before;
 use crate::numbers::false_value;
 use crate::reading::Reading;
 use crdt_lib::View;
-use rp_value::{Ty, Value};
+use rp_value::{List, Ty, Value};
 use std::alloc::Global;
 
 /// All that a quantifier over the type ranges over have numbers below this one.
@@ -44,7 +46,7 @@ fn is_tx_committed(committed: &[bool], tx: u32) -> bool
 }
 
 /// Whether c is a call of a committed transaction.
-fn is_done(r: &Reading, c: u32) -> bool
+pub(crate) fn is_done(r: &Reading, c: u32) -> bool
     ensures { result ≡ parts.is_committed (parts_view r.now) c }
 {
     c < r.history.len() && is_tx_committed(r.committed, r.history.call(c).tx)
@@ -150,14 +152,35 @@ fn is_early(r: &Reading, i: u32, j: u32, c: u32) -> bool
     !is_done_by(r, i, c) || is_before_all_of(r, j, c)
 }
 
-/// Whether both invocations have a committed call, and each one of i is before each one of j.
-fn inv_before(r: &Reading, i: u32, j: u32) -> bool
+/// Whether both invocations have a committed call, and each one of i is before each one of j, by walks over the history.
+fn walked_before(r: &Reading, i: u32, j: u32) -> bool
     ensures { result ≡ parts.inv_before (parts_view r.now) i j }
 {
     has_done(r, i) && has_done(r, j) && are_before(r, i, j)
 }
 
-fn call_before(r: &Reading, c: u32, d: u32) -> bool
+/// The list with the number, if there is one.
+fn list_of(done: &[List<u32>], i: u32) -> Option<&List<u32>>
+    ensures { option_copied result ≡ slice_get done.now i }
+{
+    done.get(i as usize)
+}
+
+/// The same, by the lists of their calls, if both have one.
+fn inv_before(r: &Reading, done: &[List<u32>], i: u32, j: u32) -> bool
+    requires { AreDone (parts_view r.now) (length (calls_view r.now.history.now)) done.now }
+    ensures { result ≡ parts.inv_before (parts_view r.now) i j }
+{
+    match list_of(done, i) {
+        Some(early) => match list_of(done, j) {
+            Some(late) => lists_before(r, early.as_slice(), late.as_slice()),
+            None => walked_before(r, i, j),
+        },
+        None => walked_before(r, i, j),
+    }
+}
+
+pub(crate) fn call_before(r: &Reading, c: u32, d: u32) -> bool
     ensures { result ≡ before (calls_view r.now.history.now) c d }
 {
     d < r.history.len() && r.history.before(c, d)
@@ -165,7 +188,8 @@ fn call_before(r: &Reading, c: u32, d: u32) -> bool
 
 /// Whether the first is before the second: two calls, or two invocations.
 #[tactic(auto, using(rp_value::proofs::ValueViews::value_views))]
-pub fn is_before(r: &Reading, a: &Value, b: &Value) -> bool
+pub fn is_before(r: &Reading, done: &[List<u32>], a: &Value, b: &Value) -> bool
+    requires { AreDone (parts_view r.now) (length (calls_view r.now.history.now)) done.now }
     ensures { result ≡ spec.is_before (parts_view r.now) (value_view a.now) (value_view b.now) }
 {
     match a {
@@ -178,7 +202,7 @@ pub fn is_before(r: &Reading, a: &Value, b: &Value) -> bool
             Value::Inv(_) => false,
         },
         Value::Inv(i) => match b {
-            Value::Inv(j) => inv_before(r, *i, *j),
+            Value::Inv(j) => inv_before(r, done, *i, *j),
             Value::Int(_) => false,
             Value::Str(_) => false,
             Value::Atom { .. } => false,

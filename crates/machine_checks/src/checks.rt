@@ -36,7 +36,7 @@ pub(crate) fn snapshot<'a>(s: &'a State, p: &'a Program, view: &'a ListView) -> 
     Reading {
         program: p,
         universe: s.universe,
-        history: &s.history,
+        history: s.history.history(),
         committed: s.committed.as_slice(),
         infos: s.infos.as_slice(),
         view,

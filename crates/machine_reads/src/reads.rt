@@ -51,7 +51,7 @@ fn reading<'a>(s: &'a State, p: &'a Program, i: u32, view: &'a ListView) -> Read
     Reading {
         program: p,
         universe: s.universe,
-        history: &s.history,
+        history: s.history.history(),
         committed: &[],
         infos: &[],
         view,

@@ -21,7 +21,7 @@ use crate::table::Table;
 use code_points::{Spot, next_at, size, spot_in};
 use crdt_lib::History;
 use crdt_truth::{Info, Outcome};
-use machine_tests::has_atom;
+use machine_tests::{IndexedHistory, has_atom};
 use rp_lang::{Action, ProcDecl, Program, Stmt, StmtKind};
 use rp_value::{List, Memory, Value};
 use std::alloc::Global;
@@ -52,7 +52,7 @@ pub struct Run {
 #[derive(Drop)]
 pub struct State {
     pub universe: u32,
-    pub history: History,
+    pub history: IndexedHistory,
     /// Of each transaction the invocation that began it.
     pub owners: Table<u32>,
     /// Of each transaction whether it is committed.
@@ -80,7 +80,7 @@ impl State {
         }
         Ok(State {
             universe,
-            history: History::new(alloc),
+            history: IndexedHistory::new(alloc),
             owners: Table::new(alloc),
             committed: Table::new(alloc),
             infos: Table::new(alloc),
@@ -99,7 +99,7 @@ impl State {
     pub fn history(&self) -> &History
         ensures { result.now ≡ self.now.history }
     {
-        &self.history
+        self.history.history()
     }
 
     /// Of each transaction whether it is committed.

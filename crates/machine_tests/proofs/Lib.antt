@@ -3,3 +3,5 @@ pub mod AtomLemmas
 pub mod SetLemmas
 pub mod StampLemmas
 pub mod ClosedLemmas
+pub mod IndexLemmas
+pub mod RowLemmas

@@ -1,5 +1,5 @@
 // Whether transactions are seen with all that is before them.
-ghost use Rattle.std.specs.Prelude.{◌≡◌, ◌<◌, ◌≤◌, ◌+◌, ◌&&◌, ◌||◌, not, ℕ, false, All, length, nat_eq};
+ghost use Rattle.std.specs.Prelude.{◌≡◌, ◌<◌, ◌≤◌, ◌+◌, ◌&&◌, ◌||◌, not, ℕ, Bool, false, IsTrue, [], length};
 ghost use Rattle.std.specs.List.Sorted.{IsStrictlyIncreasing};
 ghost use Rattle.crdt_defs.specs.Calls.{calls_view};
 ghost use Rattle.crdt_defs.specs.Counting.{first_below};
@@ -11,15 +11,31 @@ ghost use Rattle.event_machine.specs.States.{State};
 ghost use Rattle.machine_tests.specs.Transitive.{IsTransitive};
 ghost use Rattle.machine_tests.specs.means.Causes.{AreCausesFrom, is_needed};
 
-use crate::sets::{is_in, is_seen};
-use crdt_lib::History;
+use crate::indexed::IndexedHistory;
+use crate::rows::{MOST, mark, mark_all, mark_seen};
+use crate::sets::is_in;
 
-/// No history has more calls.
-const MOST: usize = 16_384;
+/// Whether neither has a transaction.
+fn sees_nothing(sees: &[u32], earlier: &[u32]) -> bool
+    ensures { IsTrue result → (sees.now ≡ []) × (earlier.now ≡ []) }
+{
+    sees.is_empty() && earlier.is_empty()
+}
+
+/// Whether d is a seen call, by the row that says so of each.
+fn is_seen(h: &IndexedHistory, sees: &[u32], seen: &[bool], d: u32) -> bool
+    requires within { d < length h.now }
+    requires row { length seen.now ≡ 16384 }
+    requires seen { ◌≡◌ {A = ℕ → Bool} (bit seen.now) (spec.calls_of (calls_view h.now) sees.now) }
+    ensures { result ≡ spec.calls_of (calls_view h.now) sees.now d }
+{
+    let _calls = h.len();
+    seen[d as usize]
+}
 
 /// The least of the first `txs` transactions that isn't seen and has a call before one that is, or a call of those that
 /// were seen earlier.
-pub fn missing(h: &History, txs: u32, sees: &[u32], earlier: &[u32]) -> Option<u32>
+pub fn missing(h: &IndexedHistory, txs: u32, sees: &[u32], earlier: &[u32]) -> Option<u32>
     requires transitive { IsTransitive (calls_view h.now) }
     requires few { txs ≤ length h.now }
     requires sees { IsStrictlyIncreasing sees.now }
@@ -27,18 +43,26 @@ pub fn missing(h: &History, txs: u32, sees: &[u32], earlier: &[u32]) -> Option<u
     ensures { (s : State) → s.calls ≡ calls_view h.now
         → result ≡ first_below (spec.is_missing s sees.now (spec.calls_of s.calls earlier.now)) txs }
 {
+    if sees_nothing(sees, earlier) {
+        return None;
+    }
+    let mut seen = [false; MOST];
+    mark_seen(h, sees, &mut seen);
     let mut causes = [false; MOST];
-    mark_causes(h, sees, &mut causes);
+    mark_causes(h, sees, &seen, &mut causes);
+    let mut early = [false; MOST];
+    mark_seen(h, earlier, &mut early);
     let mut needed = [false; MOST];
-    mark_needed(h, earlier, &causes, &mut needed);
+    mark_needed(h, earlier, &early, &causes, &mut needed);
     first_unseen(txs, sees, &needed)
 }
 
 /// Marks the calls that are before one of these transactions. It goes from the last call down, and what is before a
 /// marked call is marked already.
-fn mark_causes(h: &History, sees: &[u32], row: &mut [bool])
+fn mark_causes(h: &IndexedHistory, sees: &[u32], seen: &[bool], row: &mut [bool])
     requires transitive { IsTransitive (calls_view h.now) }
-    requires ascending { IsStrictlyIncreasing sees.now }
+    requires length { length seen.now ≡ 16384 }
+    requires seen { ◌≡◌ {A = ℕ → Bool} (bit seen.now) (spec.calls_of (calls_view h.now) sees.now) }
     requires row { length row.old ≡ 16384 }
     requires none { (b : ℕ) → bit row.old b ≡ false }
     ensures few { length h.now ≤ 16384 }
@@ -46,15 +70,16 @@ fn mark_causes(h: &History, sees: &[u32], row: &mut [bool])
     ensures causes { (b : ℕ) → bit row.new b ≡ is_before_one (calls_view h.now) (spec.calls_of (calls_view h.now) sees.now) b }
 {
     for i in 0..h.len() {
-        mark_past(h, sees, h.len() - 1 - i, row);
+        mark_past(h, sees, seen, h.len() - 1 - i, row);
     }
 }
 
 /// Marks what is before the call, if it is seen and isn't marked itself.
-fn mark_past(h: &History, sees: &[u32], d: u32, row: &mut [bool])
+fn mark_past(h: &IndexedHistory, sees: &[u32], seen: &[bool], d: u32, row: &mut [bool])
     requires history { IsHistory (calls_view h.now) }
     requires transitive { IsTransitive (calls_view h.now) }
-    requires ascending { IsStrictlyIncreasing sees.now }
+    requires length { length seen.now ≡ 16384 }
+    requires seen { ◌≡◌ {A = ℕ → Bool} (bit seen.now) (spec.calls_of (calls_view h.now) sees.now) }
     requires within { d < length h.now }
     requires row { length row.old ≡ 16384 }
     requires later { AreCausesFrom (calls_view h.now) (spec.calls_of (calls_view h.now) sees.now) (d + 1) (bit row.old) }
@@ -62,37 +87,34 @@ fn mark_past(h: &History, sees: &[u32], d: u32, row: &mut [bool])
     ensures causes { AreCausesFrom (calls_view h.now) (spec.calls_of (calls_view h.now) sees.now) d (bit row.new) }
 {
     if !row[d as usize] {
-        if is_seen(h, sees, d) {
+        if is_seen(h, sees, seen, d) {
             mark_all(h.call(d).past.as_slice(), row);
         }
     }
 }
 
-fn mark_all(numbers: &[u32], row: &mut [bool])
-    requires row { length row.old ≡ 16384 }
-    requires below { All (λ n. n < 16384) numbers.now }
-    ensures row { length row.new ≡ 16384 }
-    ensures marked { (n : ℕ) → bit row.new n ≡ (spec.is_in numbers.now n || bit row.old n) }
-{
-    for n in numbers {
-        row[*n as usize] = true;
-    }
-}
-
 /// Whether c is of the transactions that were seen earlier, or a cause.
-fn is_wanted(h: &History, earlier: &[u32], causes: &[bool], c: u32) -> bool
+fn is_wanted(h: &IndexedHistory, earlier: &[u32], early: &[bool], causes: &[bool], c: u32) -> bool
     requires history { IsHistory (calls_view h.now) }
-    requires ascending { IsStrictlyIncreasing earlier.now }
+    requires length { length early.now ≡ 16384 }
+    requires early { ◌≡◌ {A = ℕ → Bool} (bit early.now) (spec.calls_of (calls_view h.now) earlier.now) }
     requires within { c < length h.now }
     requires row { length causes.now ≡ 16384 }
     ensures { result ≡ (spec.calls_of (calls_view h.now) earlier.now c || bit causes.now c) }
 {
-    is_seen(h, earlier, c) || causes[c as usize]
+    is_seen(h, earlier, early, c) || causes[c as usize]
 }
 
 /// Marks the transactions of the wanted calls.
-fn mark_needed(h: &History, earlier: &[u32], causes: &[bool], row: &mut [bool])
-    requires ascending { IsStrictlyIncreasing earlier.now }
+fn mark_needed(
+    h: &IndexedHistory,
+    earlier: &[u32],
+    early: &[bool],
+    causes: &[bool],
+    row: &mut [bool],
+)
+    requires length { length early.now ≡ 16384 }
+    requires early { ◌≡◌ {A = ℕ → Bool} (bit early.now) (spec.calls_of (calls_view h.now) earlier.now) }
     requires causes { length causes.now ≡ 16384 }
     requires row { length row.old ≡ 16384 }
     requires none { (t : ℕ) → bit row.old t ≡ false }
@@ -102,20 +124,9 @@ fn mark_needed(h: &History, earlier: &[u32], causes: &[bool], row: &mut [bool])
         (length (calls_view h.now)) }
 {
     for c in 0..h.len() {
-        if is_wanted(h, earlier, causes, c) {
+        if is_wanted(h, earlier, early, causes, c) {
             mark(row, h.call(c).tx);
         }
-    }
-}
-
-/// Marks the transaction, where it has a place in the row.
-fn mark(row: &mut [bool], tx: u32)
-    requires { length row.old ≡ 16384 }
-    ensures row { length row.new ≡ 16384 }
-    ensures marked { (t : ℕ) → t < 16384 → bit row.new t ≡ (nat_eq tx t || bit row.old t) }
-{
-    if (tx as usize) < MOST {
-        row[tx as usize] = true;
     }
 }
 
@@ -125,7 +136,11 @@ fn is_unseen(sees: &[u32], needed: &[bool], tx: u32) -> bool
     requires within { tx < length needed.now }
     ensures { result ≡ (not (spec.is_in sees.now tx) && bit needed.now tx) }
 {
-    !is_in(sees, tx) && needed[tx as usize]
+    if needed[tx as usize] {
+        !is_in(sees, tx)
+    } else {
+        false
+    }
 }
 
 /// The first transaction that is needed and isn't seen.

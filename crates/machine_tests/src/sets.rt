@@ -1,10 +1,11 @@
 // Sets of calls: those of the transactions that are seen, and what an invocation reads.
-ghost use Rattle.std.specs.Prelude.{◌≡◌, ◌<◌, ◌||◌, IfOk, length};
+ghost use Rattle.std.specs.Prelude.{◌≡◌, ◌||◌, IfOk, IsTrue, None, [], length};
 ghost use Rattle.std.specs.List.Sorted.{IsStrictlyIncreasing};
 ghost use Rattle.crdt_defs.specs.Calls.{calls_view};
 ghost use Rattle.event_machine.specs.Machine as spec;
 
-use crdt_lib::History;
+use crate::indexed::IndexedHistory;
+use crate::rows::{MOST, mark_read, marked};
 use rp_value::{List, Memory};
 use std::alloc::Global;
 
@@ -16,40 +17,17 @@ pub(crate) fn is_in(list: &[u32], n: u32) -> bool
     list.binary_search(&n).is_ok()
 }
 
-/// Whether c is of these transactions.
-pub(crate) fn is_seen(h: &History, sees: &[u32], c: u32) -> bool
-    requires ascending { IsStrictlyIncreasing sees.now }
-    requires within { c < length h.now }
-    ensures { result ≡ spec.calls_of (calls_view h.now) sees.now c }
+/// Whether there is neither a transaction that is seen nor an open one.
+pub(crate) fn reads_nothing(sees: &[u32], tx: Option<u32>) -> bool
+    ensures { IsTrue result → (sees.now ≡ []) × (tx ≡ None) }
 {
-    is_in(sees, h.call(c).tx)
-}
-
-/// Whether c is of the open transaction.
-fn is_own(h: &History, tx: Option<u32>, c: u32) -> bool
-    requires within { c < length h.now }
-    ensures { result ≡ spec.own_calls (calls_view h.now) tx c }
-{
-    match tx {
-        Some(tx) => h.call(c).tx == tx,
-        None => false,
-    }
-}
-
-/// Whether c is of these transactions or of the open one.
-pub(crate) fn is_read(h: &History, sees: &[u32], tx: Option<u32>, c: u32) -> bool
-    requires ascending { IsStrictlyIncreasing sees.now }
-    requires within { c < length h.now }
-    ensures { result ≡ (spec.calls_of (calls_view h.now) sees.now c || spec.own_calls (calls_view h.now) tx c) }
-{
-    is_seen(h, sees, c) || is_own(h, tx, c)
+    sees.is_empty() && tx.is_none()
 }
 
 /// The calls of these transactions and of the open one, ascending.
-#[tactic(auto, using(crate::proofs::SetLemmas::listed_more))]
 pub fn calls_read(
     alloc: Global,
-    h: &History,
+    h: &IndexedHistory,
     sees: &[u32],
     tx: Option<u32>,
 ) -> Result<List<u32>, Memory>
@@ -59,11 +37,10 @@ pub fn calls_read(
         (length (calls_view h.now))) }
     ensures ascending { IfOk result (λ calls. IsStrictlyIncreasing calls) }
 {
-    let mut calls = List::new(alloc);
-    for c in 0..h.len() {
-        if is_read(h, sees, tx, c) {
-            calls.push(c)?;
-        }
+    if reads_nothing(sees, tx) {
+        return Ok(List::new(alloc));
     }
-    Ok(calls)
+    let mut row = [false; MOST];
+    mark_read(h, sees, tx, &mut row);
+    marked(alloc, &row, h.len())
 }

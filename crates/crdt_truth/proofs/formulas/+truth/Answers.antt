@@ -32,7 +32,7 @@ truth-all_true-requires t c =
     let parts = subst (FoWithin r b) view c.requires.within in
     let nodes = ap fo_nodes view in
     let same = ap (λ (x : List Formula). fos_nodes (formulas_view x)) c.as_slice.ensures.items in
-    (omega (arith, nodes, same), (c.requires.few, subst (λ (x : List Formula). FosWithin r b (formulas_view x)) (sym c.as_slice.ensures.items) parts))
+    (omega (arith, nodes, same), (c.requires.ready, subst (λ (x : List Formula). FosWithin r b (formulas_view x)) (sym c.as_slice.ensures.items) parts))
 
 pub truth-any_true-requires : goal.truth-any_true-requires
 truth-any_true-requires t c =
@@ -42,7 +42,7 @@ truth-any_true-requires t c =
     let parts = subst (FoWithin r b) view c.requires.within in
     let nodes = ap fo_nodes view in
     let same = ap (λ (x : List Formula). fos_nodes (formulas_view x)) c.as_slice-in-Or.ensures.items in
-    (omega (arith, nodes, same), (c.requires.few, subst (λ (x : List Formula). FosWithin r b (formulas_view x)) (sym c.as_slice-in-Or.ensures.items) parts))
+    (omega (arith, nodes, same), (c.requires.ready, subst (λ (x : List Formula). FosWithin r b (formulas_view x)) (sym c.as_slice-in-Or.ensures.items) parts))
 
 pub truth-truth-requires : goal.truth-truth-requires
 truth-truth-requires t c =
@@ -52,7 +52,7 @@ truth-truth-requires t c =
     let parts = subst (FoWithin r b) view c.requires.within in
     let nodes = ap fo_nodes view in
     let same = ap (λ (x : Formula). fo_nodes (formula_view x)) c.get.ensures in
-    (omega (arith, nodes, same), (c.requires.few, subst (λ (x : Formula). FoWithin r b (formula_view x)) (sym c.get.ensures) parts))
+    (omega (arith, nodes, same), (c.requires.ready, subst (λ (x : Formula). FoWithin r b (formula_view x)) (sym c.get.ensures) parts))
 
 pub truth-truth-requires-in-Implies : goal.truth-truth-requires-in-Implies
 truth-truth-requires-in-Implies t c =
@@ -62,7 +62,7 @@ truth-truth-requires-in-Implies t c =
     let parts = subst (FoWithin r b) view c.requires.within in
     let nodes = ap fo_nodes view in
     let same = ap (λ (x : Formula). fo_nodes (formula_view x)) c.get-in-Implies.ensures in
-    (omega (arith, nodes, same), (c.requires.few, subst (λ (x : Formula). FoWithin r b (formula_view x)) (sym c.get-in-Implies.ensures) parts.0))
+    (omega (arith, nodes, same), (c.requires.ready, subst (λ (x : Formula). FoWithin r b (formula_view x)) (sym c.get-in-Implies.ensures) parts.0))
 
 pub truth-truth-requires-in-Implies-2 : goal.truth-truth-requires-in-Implies-2
 truth-truth-requires-in-Implies-2 t c =
@@ -72,7 +72,7 @@ truth-truth-requires-in-Implies-2 t c =
     let parts = subst (FoWithin r b) view c.requires.within in
     let nodes = ap fo_nodes view in
     let same = ap (λ (x : Formula). fo_nodes (formula_view x)) c.get-in-Implies-2.ensures in
-    (omega (arith, nodes, same), (c.requires.few, subst (λ (x : Formula). FoWithin r b (formula_view x)) (sym c.get-in-Implies-2.ensures) parts.1))
+    (omega (arith, nodes, same), (c.requires.ready, subst (λ (x : Formula). FoWithin r b (formula_view x)) (sym c.get-in-Implies-2.ensures) parts.1))
 
 pub truth-each_true-requires : goal.truth-each_true-requires
 truth-each_true-requires t c =
@@ -82,7 +82,7 @@ truth-each_true-requires t c =
     let parts = subst (FoWithin r b) view c.requires.within in
     let nodes = ap fo_nodes view in
     let same = ap (λ (x : Formula). fo_nodes (formula_view x)) c.get-in-All.ensures in
-    (omega (arith, nodes, same), (c.requires.few, subst (λ (x : Formula). EachWithin r b c.in-All.over (formula_view x)) (sym c.get-in-All.ensures) parts))
+    (omega (arith, nodes, same), (c.requires.ready, subst (λ (x : Formula). EachWithin r b c.in-All.over (formula_view x)) (sym c.get-in-All.ensures) parts))
 
 pub truth-some_true-requires : goal.truth-some_true-requires
 truth-some_true-requires t c =
@@ -92,7 +92,7 @@ truth-some_true-requires t c =
     let parts = subst (FoWithin r b) view c.requires.within in
     let nodes = ap fo_nodes view in
     let same = ap (λ (x : Formula). fo_nodes (formula_view x)) c.get-in-Any.ensures in
-    (omega (arith, nodes, same), (c.requires.few, subst (λ (x : Formula). EachWithin r b c.in-Any.over (formula_view x)) (sym c.get-in-Any.ensures) parts))
+    (omega (arith, nodes, same), (c.requires.ready, subst (λ (x : Formula). EachWithin r b c.in-Any.over (formula_view x)) (sym c.get-in-Any.ensures) parts))
 
 pub truth-holds-requires : goal.truth-holds-requires
 truth-holds-requires t c =
@@ -207,27 +207,27 @@ truth-arm_true-requires t c =
     let nodes = ap fo_nodes view in
     let same = ap (λ (x : List Arm). arms_nodes (arms_view x)) c.as_slice-in-Match.ensures.items in
     let of_value = subst (λ (v : Val). ArmWithin r b v (arms_view c.in-Match.arms)) (sym c.in_ok-on-in-Match.ensures) parts.1 in
-    (omega (arith, nodes, same), (c.requires.few, subst (λ (x : List Arm). ArmWithin r b (value_view c.in_ok-on-in-Match.on) (arms_view x)) (sym c.as_slice-in-Match.ensures.items) of_value))
+    (omega (arith, nodes, same), (c.requires.ready, subst (λ (x : List Arm). ArmWithin r b (value_view c.in_ok-on-in-Match.on) (arms_view x)) (sym c.as_slice-in-Match.ensures.items) of_value))
 
 pub all_true-truth-requires : goal.all_true-truth-requires
 all_true-truth-requires t c =
     let less = fo_nodes_at c.args.parts.now c.loop-part.part-index c.part-item.result c.loop-part-test.true c.part-item.is in
-    (omega (arith, less), (c.requires.few, fo_within_at (reading_view c.args.r.now) (binders_view c.args.binders.now) c.args.parts.now c.loop-part.part-index c.part-item.result c.requires.within c.loop-part-test.true c.part-item.is))
+    (omega (arith, less), (c.requires.ready, fo_within_at (reading_view c.args.r.now) (binders_view c.args.binders.now) c.args.parts.now c.loop-part.part-index c.part-item.result c.requires.within c.loop-part-test.true c.part-item.is))
 
 pub any_true-truth-requires : goal.any_true-truth-requires
 any_true-truth-requires t c =
     let less = fo_nodes_at c.args.parts.now c.loop-part.part-index c.part-item.result c.loop-part-test.true c.part-item.is in
-    (omega (arith, less), (c.requires.few, fo_within_at (reading_view c.args.r.now) (binders_view c.args.binders.now) c.args.parts.now c.loop-part.part-index c.part-item.result c.requires.within c.loop-part-test.true c.part-item.is))
+    (omega (arith, less), (c.requires.ready, fo_within_at (reading_view c.args.r.now) (binders_view c.args.binders.now) c.args.parts.now c.loop-part.part-index c.part-item.result c.requires.within c.loop-part-test.true c.part-item.is))
 
 pub each_true-is_kept-requires : goal.each_true-is_kept-requires
 each_true-is_kept-requires t c =
     let lt : c.loop-n.n < bound (parts_view c.args.r.now) c.args.over = omega (arith, c.bound-n-end.ensures) in
-    (omega arith, (c.requires.few, c.requires.within c.loop-n.n lt))
+    (omega arith, (c.requires.ready, c.requires.within c.loop-n.n lt))
 
 pub some_true-is_met-requires : goal.some_true-is_met-requires
 some_true-is_met-requires t c =
     let lt : c.loop-n.n < bound (parts_view c.args.r.now) c.args.over = omega (arith, c.bound-n-end.ensures) in
-    (omega arith, (c.requires.few, c.requires.within c.loop-n.n lt))
+    (omega arith, (c.requires.ready, c.requires.within c.loop-n.n lt))
 
 pub arm_true-truth-requires : goal.arm_true-truth-requires
 arm_true-truth-requires t c =
@@ -241,7 +241,7 @@ arm_true-truth-requires t c =
     let built = ap (is_built arm.con) seen ∙ eq-eqb c.in-Con.con arm.con (sym c.if-arm-con.true) in
     let bound = ap (λ (x : Val). bind_fields x b) seen ∙ ap (λ (x : List Value). bind (values_view x) b) (sym c.as_slice.ensures.items) ∙ sym (binders_view-Fields c.as_slice.result c.args.binders) in
     let less = arm_nodes_at c.args.arms.now c.loop-arm.arm-index arm c.loop-arm-test.true c.arm-item.is in
-    (omega (arith, less), (c.requires.few, subst (λ (bs : List Val). FoWithin r bs (formula_view arm.body)) bound (parts.0 built)))
+    (omega (arith, less), (c.requires.ready, subst (λ (bs : List Val). FoWithin r bs (formula_view arm.body)) bound (parts.0 built)))
 
 pub arm_true-returns-then-arm-con : goal.arm_true-returns-then-arm-con
 arm_true-returns-then-arm-con t c =
@@ -281,7 +281,7 @@ is_kept-truth-requires t c =
     let b = binders_view c.args.binders.now in
     let body = formula_view c.args.body.now in
     let one = subst (λ (x : Val). FoWithin r (x ∷ b) body) (sym c.member-one.ensures) (c.requires.within (sym c.if-not-is_in_range.ensures)) in
-    (omega arith, (c.requires.few, subst (λ (bs : List Val). FoWithin r bs body) (sym (binders_view-One _ _)) one))
+    (omega arith, (c.requires.ready, subst (λ (bs : List Val). FoWithin r bs body) (sym (binders_view-One _ _)) one))
 
 pub is_met-truth-requires : goal.is_met-truth-requires
 is_met-truth-requires t c =
@@ -289,7 +289,7 @@ is_met-truth-requires t c =
     let b = binders_view c.args.binders.now in
     let body = formula_view c.args.body.now in
     let one = subst (λ (x : Val). FoWithin r (x ∷ b) body) (sym c.member-one.ensures) (c.requires.within (sym c.if-not-is_in_range.ensures)) in
-    (omega arith, (c.requires.few, subst (λ (bs : List Val). FoWithin r bs body) (sym (binders_view-One _ _)) one))
+    (omega arith, (c.requires.ready, subst (λ (bs : List Val). FoWithin r bs body) (sym (binders_view-One _ _)) one))
 
 pub each_true-returns-then-not-branch : goal.each_true-returns-then-not-branch
 each_true-returns-then-not-branch t c =

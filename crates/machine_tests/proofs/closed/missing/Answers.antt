@@ -2,7 +2,19 @@ use Rattle.std.proofs.Common.{◌≤◌, length, ◌∙◌, arith}
 use Rattle.crdt_defs.specs.Calls.{calls_view}
 use Rattle.crdt_lib.proofs.BlockLemmas.{none_marked}
 use Rattle.machine_tests.proofs.ClosedLemmas.{missing_is}
+use Rattle.machine_tests.proofs.RowLemmas.{nothing_missing}
 use Rattle.machine_tests.proofs.closed.missing.Goals as goal
+
+pub returns-then-sees_nothing : goal.returns-then-sees_nothing
+returns-then-sees_nothing c = λ s e.
+    let nothing = c.sees_nothing.ensures c.if-sees_nothing.true in
+    nothing_missing s c.args.sees.now c.args.earlier.now c.args.txs nothing.0 nothing.1
+
+pub mark_seen-requires-clause-none : goal.mark_seen-requires-clause-none
+mark_seen-requires-clause-none c = none_marked 16384
+
+pub mark_seen-requires-2-clause-none : goal.mark_seen-requires-2-clause-none
+mark_seen-requires-2-clause-none c = none_marked 16384
 
 pub mark_causes-requires-clause-none : goal.mark_causes-requires-clause-none
 mark_causes-requires-clause-none c = none_marked 16384

@@ -1,7 +1,7 @@
 use Rattle.std.proofs.Common.{◌≡◌, ℕ, ◌||◌, take, length}
 use Rattle.crdt_defs.specs.Snapshots.{bit}
 use Rattle.event_machine.specs.Machine as spec
-use Rattle.machine_tests.proofs.closed.mark_all.Given as goal
+use Rattle.machine_tests.proofs.rows.mark_all.Given as goal
 
 abbrev pub invariant-loop-n : goal.invariant-loop-n
 invariant-loop-n l = record {

@@ -1,8 +1,0 @@
-use Rattle.std.proofs.Common.{◌≡◌, ◌||◌}
-use Rattle.crdt_defs.specs.Calls.{calls_view}
-use Rattle.event_machine.specs.Machine as spec
-use Rattle.machine_tests.proofs.stamps.greatest_stamp.Given as goal
-
-abbrev pub invariant-loop-c : goal.invariant-loop-c
-invariant-loop-c l =
-    l.greatest ≡ spec.greatest_stamp (calls_view l.h) (λ c. spec.calls_of (calls_view l.h) l.sees c || spec.own_calls (calls_view l.h) l.tx c) l.c
