@@ -1,3 +1,4 @@
 pub mod Weights
 pub mod PointLaws
 pub mod ActionLaws
+pub mod PlaceLaws

@@ -1,4 +1,5 @@
 pub mod Points
+pub mod Places
 pub mod PointView
 pub mod Actions
 pub mod ActionView

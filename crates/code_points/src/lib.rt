@@ -3,6 +3,7 @@
 
 mod action;
 mod point;
+mod table;
 
-pub use action::next_at;
-pub use point::{Spot, size, spot_in};
+pub use point::{Spot, size};
+pub use table::{Place, next_at, places_of, rest_at, spot_at};
