@@ -204,5 +204,6 @@ check_does p s sees r visible found fits narrow reads sees_so is =
       within = check_narrow p s sees narrow;
       tells = subst (λ answer. Tells v s answer s (event_of found)) effect (tells_found v s found);
       kept = fits.kept;
+      places = refl;
       known = fits.known;
     }

@@ -78,6 +78,7 @@ run_does p s i info run new label fits is_info is_run new_fits within same ends 
       within = within;
       tells = subst (λ answer. Tells v s answer (record s { runs = slice_set s.runs i new }) event.Moved) (sym effect) (refl, ap (λ invs. record (state_view v s) { invocations = invs }) written);
       kept = kept_run s i new fits.kept new_fits (told_by s.infos i info new is_info ends);
+      places = refl;
       known = λ x. fits.known x
           ∙ sym (ap (list_any (knows x)) written
           ∙ any_set (knows x) (invs_view v calls s.infos s.runs) i (inv_view v calls info run) (inv_view v calls info new) (viewed_at v s i info run is_info is_run) (same x));
@@ -155,6 +156,7 @@ commit_does p s i tx at info run here next fits is_info is_run own code behind =
             ∙ ap (λ invs. record sv { txs = slice_set sv.txs tx (record { inv = i; committed = true }); invocations = invs }) (written ∙ ap (slice_set sv.invocations i) seen_new),
       );
       kept = kept_run (record s { committed = slice_set s.committed tx true }) i new marked new_fits (told_by s.infos i info new is_info (fits.kept.told i info run is_info is_run));
+      places = refl;
       known = λ x. fits.known x
           ∙ sym (ap (list_any (knows x)) written ∙ any_set (knows x) (invs_view v calls s.infos s.runs) i inv (inv_view v calls info new) at_inv refl);
     }
@@ -237,6 +239,7 @@ begin_does p s i stamp at sees info run call next fits is_info is_run room ascen
                 omega arith;
             ints = old.ints;
           }) (told_by s.infos i info new is_info (fits.kept.told i info run is_info is_run));
+      places = refl;
       known = λ x. fits.known x
           ∙ sym (ap (list_any (knows x)) invs ∙ any_set (knows x) sv.invocations i inv (target own) at_inv refl);
     }
@@ -300,6 +303,7 @@ make_does p s i slot of at info run id next fits is_info is_run fit code behind 
             ∙ ap (λ g. record sv { invocations = slice_set sv.invocations i (record (spec.with_slot inv slot (value_view id)) { left = next }); generated = g }) ids,
       );
       kept = record { few = kept.few; runs = kept.runs; txs = kept.txs; calls = kept.calls; ascending = kept.ascending; committed = kept.committed; later = kept.later; ints = kept.ints; told = kept.told };
+      places = refl;
       known = λ x. fits.known x
           ∙ sym (ap (list_any (knows x)) written ∙ any_set (knows x) sv.invocations i inv (record (spec.with_slot inv slot (value_view id)) { left = next }) at_inv refl);
     }
@@ -312,6 +316,7 @@ nothing_done p s label fits within effect = record {
   within = within;
   tells = subst (λ answer. Tells (program_view p) s answer s event.Moved) (sym effect) (refl, refl);
   kept = fits.kept;
+  places = refl;
   known = fits.known;
 }
 
@@ -450,6 +455,7 @@ invoke_does p s proc args q fits is_proc room fit =
       within = invoke_limit p s proc vals same room fit;
       tells = subst (λ answer. Tells v s answer made event.Moved) (sym effect) (refl, ap (λ is. record sv { invocations = is }) invs);
       kept = kept_more s (first_info proc args) (first_run q args) (omega arith) fits.kept (first_fits s.committed q args fit) refl;
+      places = refl;
       known = λ x. fits.known x
           ∙ sym (ap (list_any (knows x)) invs ∙ list_any-append (knows x) sv.invocations (new ∷ []) ∙ or_false (list_any (knows x) sv.invocations));
     }

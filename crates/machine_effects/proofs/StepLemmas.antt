@@ -35,6 +35,7 @@ fits_after p old new label told fits free does =
           let leads_on = subst (λ answer. Leads (state_view v old) answer (state_view v new)) (sym stepped) leads in
           record {
             room = fits.room;
+            places = ap (map (map place_view)) does.places ∙ fits.places;
             well_formed = step-formed v (procs-fit v p.well_formed) (state_view v old) label (state_view v new) fits.well_formed leads_on;
             typed = step-typed v p.well_formed (state_view v old) label (state_view v new) fits.typed leads_on;
             kept = does.kept;

@@ -36,6 +36,7 @@ Steps p old label new told =
 pub record Does (p : Program) (old : State) (label : Label) (new : State) (told : Event) : Type 0 where
   pub within : limit_of (program_view p) (state_view (program_view p) old) label ≡ None
   pub tells : Tells (program_view p) old (spec.effect (program_view p) (state_view (program_view p) old) label) new told
+  pub places : new.places ≡ old.places
   pub kept : IsKept new
   pub known : KnowsResults (program_view p) new
 

@@ -1,3 +1,4 @@
 pub mod LocalLemmas
 pub mod SlotLemmas
 pub mod ArmLemmas
+pub mod PartLemmas

@@ -284,5 +284,6 @@ assert_fails p s i behind place f fits it fails narrow =
       within = limit_is p s i inv code it.at it.next ∙ narrow_limit (breadth (read_at p s inv).parts f) narrow;
       tells = subst (λ answer. Tells w s answer s (event.Violated (told_what.Assertion place))) (sym effect) (refl, refl);
       kept = fits.kept;
+      places = refl;
       known = fits.known;
     }

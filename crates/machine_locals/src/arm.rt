@@ -8,13 +8,12 @@ ghost use Rattle.event_machine.specs.Code as code;
 ghost use Rattle.event_machine.specs.States as label;
 ghost use Rattle.event_machine.specs.WellFormed.{At};
 ghost use Rattle.machine_effects.specs.Steps.{Does, Stops};
-ghost use Rattle.machine_locals.specs.Lefts.{HasLeft, arm_in, built};
+ghost use Rattle.machine_locals.specs.Lefts.{HasArms, HasLeft, arm_in, built};
 ghost use Rattle.machine_state.specs.declared.state.Run.{Run};
 ghost use Rattle.machine_state.specs.Accessors.{is_running};
 ghost use Rattle.machine_state.specs.Fits.{Fits};
 
 use crate::slots::{fill, turned};
-use code_points::size;
 use machine_effects::StepErr;
 use machine_next::next_is_within;
 use machine_reads::value_at;
@@ -39,8 +38,18 @@ fn taken(value: Value) -> Option<(u32, List<Value>)>
 }
 
 /// The slots and the first point of the constructor's arm, where the first point of the arms is this.
-fn arm_of<'a>(arms: &'a [StmtArm], con: u32, first: u64) -> Option<(&'a [u32], u64)>
-    requires { first + arms_size (stmt_arms_view arms.now) < 18446744073709551615 }
+fn arm_of<'a>(
+    s: &State,
+    p: &Program,
+    i: u32,
+    arms: &'a [StmtArm],
+    con: u32,
+    first: u64,
+) -> Option<(&'a [u32], u64)>
+    requires fits { Fits p.now s.now }
+    requires within { i < length s.now.infos }
+    requires room { first + arms_size (stmt_arms_view arms.now) < 18446744073709551615 }
+    requires told { HasArms s.now i (stmt_arms_view arms.now) first }
     ensures { option_map (λ found. (found.0.now, found.1)) result ≡ arm_in (stmt_arms_view arms.now) con first }
 {
     let mut at = first;
@@ -48,7 +57,7 @@ fn arm_of<'a>(arms: &'a [StmtArm], con: u32, first: u64) -> Option<(&'a [u32], u
         if con == arm.con {
             return Some((arm.slots.as_slice(), at));
         }
-        at += size(arm.body.as_slice()) + 1;
+        at += s.rest_at(p, i, at) + 1;
     }
     None
 }
@@ -67,6 +76,7 @@ pub(crate) fn enter(
     requires within { i < length s.old.infos }
     requires running { (run : Run) → At s.old.runs i run → is_running run.standing ≡ true }
     requires room { first + arms_size (stmt_arms_view arms.now) < 18446744073709551615 }
+    requires told { HasArms s.old i (stmt_arms_view arms.now) first }
     requires next { HasLeft p.now s.old i (λ left. code.Match (expr_view on.now) (arms_from left (stmt_arms_view arms.now) first)) }
     ensures ok { IfOk result (λ told. Does p.now s.old (label.Local i) s.new told) }
     ensures err { IfErr result (λ why. Stops p.now s.old (label.Local i) s.new why) }
@@ -76,7 +86,7 @@ pub(crate) fn enter(
     let Some((con, args)) = taken(value) else {
         return Ok(Event::Moved);
     };
-    let Some((slots, at)) = arm_of(arms, con, first) else {
+    let Some((slots, at)) = arm_of(&*s, p, i, arms, con, first) else {
         return Ok(Event::Moved);
     };
     let fields = turned(alloc, args)?;

@@ -1,7 +1,7 @@
 // Steps of an invocation by itself: one function for each kind of statement.
-ghost use Rattle.std.specs.Prelude.{◌≡◌, ◌+◌, ◌<◌, ◌≤◌, ℕ, true, false, length, IfOk, IfErr};
+ghost use Rattle.std.specs.Prelude.{◌≡◌, ◌+◌, ◌<◌, ◌≤◌, ℕ, Some, true, false, length, IfOk, IfErr};
 ghost use Rattle.rp_lang.specs.Views.{expr_view, formula_view, stmt_view};
-ghost use Rattle.code_points.specs.Points.{does_at, inner};
+ghost use Rattle.code_points.specs.Points.{Before, does_at, inner};
 ghost use Rattle.event_machine.specs.Code as code;
 ghost use Rattle.event_machine.specs.States as label;
 ghost use Rattle.event_machine.specs.WellFormed.{At};
@@ -10,10 +10,11 @@ ghost use Rattle.machine_locals.specs.Lefts.{HasLeft};
 ghost use Rattle.machine_state.specs.declared.state.Run.{Run};
 ghost use Rattle.machine_state.specs.Accessors.{is_running};
 ghost use Rattle.machine_state.specs.Fits.{Fits};
+ghost use Rattle.machine_state.specs.Spots.{IsTold};
 
 use crate::arm::enter;
 use crate::slots::{assign, truth_value, way};
-use code_points::{Spot, size};
+use code_points::Spot;
 use machine_effects::StepErr;
 use machine_next::next_is_within;
 use machine_reads::{truth_at, value_at};
@@ -50,6 +51,7 @@ fn run_stmt(
     requires within { i < length s.old.infos }
     requires running { (run : Run) → At s.old.runs i run → is_running run.standing ≡ true }
     requires room { at + inner (stmt_view stmt.now) + 1 ≤ 18446744073709551614 }
+    requires told { IsTold s.old i (Some (Before at (stmt_view stmt.now))) }
     requires next { HasLeft p.now s.old i (λ left. does_at left at (stmt_view stmt.now)) }
     ensures ok { IfOk result (λ told. Does p.now s.old (label.Local i) s.new told) }
     ensures err { IfErr result (λ why. Stops p.now s.old (label.Local i) s.new why) }
@@ -57,8 +59,8 @@ fn run_stmt(
     match &stmt.what {
         StmtKind::Put(slot, e) => put(s, alloc, p, i, *slot, e, at + 1),
         StmtKind::Decide(slot, f) => decide(s, alloc, p, i, *slot, f, at + 1),
-        StmtKind::If(f, then_, _else) => {
-            let other = at + 1 + (size(then_.as_slice()) + 1);
+        StmtKind::If(f, _then, _else) => {
+            let other = at + 1 + (s.rest_at(p, i, at + 1) + 1);
             choose(s, alloc, p, i, f, at + 1, other)
         }
         StmtKind::Match(on, arms) => enter(s, alloc, p, i, on, arms.as_slice(), at + 1),

@@ -102,6 +102,7 @@ operate_does p s i stamp tx op at args vals info run call next fits is_info is_r
       );
       kept = kept_run (record s { history = s.history ++ call ∷ [] }) i new (kept_call s call fits.kept) (record { ascending = old.ascending; committed = old.committed; later = old.later; ints = old.ints })
           (told_by s.infos i info new is_info (fits.kept.told i info run is_info is_run));
+      places = refl;
       known = λ x. fits.known x
           ∙ sym (ap (list_any (λ (inv : seen.Invocation). spec.stands_in x inv.standing)) invs
           ∙ any_set (λ (inv : seen.Invocation). spec.stands_in x inv.standing) sv.invocations i inv (record inv { left = next }) at_inv refl);

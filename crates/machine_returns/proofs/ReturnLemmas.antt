@@ -160,6 +160,7 @@ return_does p s i info run outcome known at result fits is_info is_run running c
             ∙ ap (λ r. record sv { invocations = slice_set sv.invocations i (record inv { standing = seen.Returned r }) }) gives,
       );
       kept = record { few = kept.few; runs = kept.runs; txs = kept.txs; calls = kept.calls; ascending = kept.ascending; committed = kept.committed; later = kept.later; ints = kept.ints; told = kept.told };
+      places = refl;
       known = λ x.
           let in_result : seen.Invocation → Bool = λ inv. spec.stands_in x inv.standing in
           let none : in_result inv ≡ false = ap (spec.stands_in x) (running_is run.standing info.outcome running) in

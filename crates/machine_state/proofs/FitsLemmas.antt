@@ -27,7 +27,12 @@ use Rattle.event_machine.specs.Machine as spec
 use Rattle.event_machine.specs.WellFormed.{IsWellFormed}
 use Rattle.event_machine.proofs.KeptLemmas.{empty-formed}
 use Rattle.event_machine.proofs.TypedKept.{empty-typed}
+use Rattle.code_points.specs.declared.table.Place.{Place}
+use Rattle.code_points.specs.Places as points
+use Rattle.code_points.specs.Places.{block_places, look, Tells}
+use Rattle.code_points.specs.PointView.{place_view}
 use Rattle.code_points.specs.Points.{Spot, size, codes_at, spot_in, goes_on}
+use Rattle.code_points.proofs.PlaceLaws.{body_is}
 use Rattle.code_points.proofs.PointLaws.{whole}
 use Rattle.machine_tests.specs.Transitive.{IsTransitive}
 use Rattle.machine_state.specs.declared.state.Run.{Run}
@@ -36,16 +41,17 @@ use Rattle.machine_state.specs.declared.state.Standing as stood
 use Rattle.machine_state.specs.declared.state.Standing.TheVariants as stand
 use Rattle.machine_state.specs.Accessors.{is_running, next, next_inv, new_left, new_inv, new_type}
 use Rattle.machine_state.specs.StateView.{inv_view, standing_view, state_view, left_of}
-use Rattle.machine_state.specs.Fits.{Fits, HasRoom}
+use Rattle.machine_state.specs.Fits.{AreProcPlaces, Fits, HasRoom}
 use Rattle.machine_state.specs.Spots.{IsSpot}
 use Rattle.machine_state.proofs.StateLemmas.{nothing, one_found, some_at, viewed, viewed_at}
 
-abbrev empty_state : ℕ → State
-empty_state universe = record { universe = universe; history = []; owners = []; committed = []; infos = []; runs = []; generated = []; known = [] }
+abbrev empty_state : ℕ → List (List Place) → State
+empty_state universe places = record { universe = universe; places = places; history = []; owners = []; committed = []; infos = []; runs = []; generated = []; known = [] }
 
-pub empty_fits : (p : Program) (universe : ℕ) → HasRoom (program_view p) → 1 ≤ universe → Fits p (empty_state universe)
-empty_fits p universe room some = record {
+pub empty_fits : (p : Program) (universe : ℕ) (places : List (List Place)) → HasRoom (program_view p) → AreProcPlaces (program_view p).procs places → 1 ≤ universe → Fits p (empty_state universe places)
+empty_fits p universe places room points some = record {
   room = room;
+  places = points;
   well_formed = empty-formed (program_view p) universe some;
   typed = empty-typed (program_view p) universe;
   kept = record {
@@ -233,3 +239,53 @@ new_runs p s i x it told =
 
 pub new_ended : (p : Program) (s : State) (i : ℕ) → Standing p s i false → None ≡ new_type (state_view (program_view p) s) i
 new_ended p s i it = sym (ap (λ b. if b then new_left it.inv.left else None) it.runs_so) ∙ sym (ap (option_and_then new_inv) it.is)
+
+-- # The points of procedures
+
+abbrev pub points_of : Proc → List points.Place
+points_of q = block_places q.body 0 None
+
+pub places_within : (p : Program) (s : State) (i : ℕ) (info : Info) → Fits p s → slice_get s.infos i ≡ Some info → info.proc < length s.places
+places_within p s i info fits is_info =
+    let within : info.proc < length p.procs = proc_within p s i info fits is_info in
+    let procs : length (map proc_view p.procs) ≡ length p.procs = length-map p.procs proc_view in
+    let left : length (map (map place_view) s.places) ≡ length s.places = length-map s.places (map place_view) in
+    let right : length (map points_of (map proc_view p.procs)) ≡ length (map proc_view p.procs) = length-map (map proc_view p.procs) points_of in
+    let same : length (map (map place_view) s.places) ≡ length (map points_of (map proc_view p.procs)) = ap length fits.places in
+    omega arith
+
+placed : (p : Program) (s : State) (n : ℕ) (decl : ProcDecl) (places : List Place) → Fits p s → slice_get p.procs n ≡ Some decl → slice_get s.places n ≡ Some places
+    → map place_view places ≡ block_places (stmts_view decl.body) 0 None
+placed p s n decl places fits is_decl is_places =
+    let here : slice_get (map (map place_view) s.places) n ≡ Some (map place_view places) = slice_get-map (map place_view) s.places n ∙ ap (λ o. option_map (map place_view) o) is_places in
+    let there : slice_get (map points_of (program_view p).procs) n ≡ Some (points_of (proc_view decl))
+        = slice_get-map points_of (program_view p).procs n ∙ ap (λ o. option_map points_of o) (proc_at p n decl is_decl) in
+    one_found (slice_get (map points_of (program_view p).procs) n) (map place_view places) (points_of (proc_view decl)) (ap (λ xs. slice_get xs n) (sym fits.places) ∙ here) there
+
+-- what the list of its procedure's points has at an invocation's point
+pub record Placed (p : Program) (s : State) (i : ℕ) (info : Info) (run : Run) (spot : Option Spot) : Type 0 where
+  pub decl : ProcDecl
+  pub is : slice_get p.procs info.proc ≡ Some decl
+  pub spot_so : spot ≡ spot_in (stmts_view decl.body) 0 run.at
+
+pub is_placed : (p : Program) (s : State) (i : ℕ) (info : Info) (run : Run) (places : List Place) (spot : Option Spot) → Fits p s
+    → slice_get s.infos i ≡ Some info → slice_get s.places info.proc ≡ Some places → spot ≡ look (map place_view places) run.at → Placed p s i info run spot
+is_placed p s i info run places spot fits is_info is_places so =
+    let decl = some_at p.procs info.proc (proc_within p s i info fits is_info) in
+    record {
+      decl = decl.0;
+      is = decl.1;
+      spot_so = so ∙ ap (λ xs. look xs run.at) (placed p s info.proc decl.0 places fits decl.1 is_places) ∙ (body_is (stmts_view decl.0.body) run.at).0;
+    }
+
+pub is_told : (p : Program) (s : State) (i : ℕ) (info : Info) (run : Run) (places : List Place) (spot : Option Spot) → Fits p s
+    → slice_get s.infos i ≡ Some info → slice_get s.places info.proc ≡ Some places → spot ≡ look (map place_view places) run.at → Tells (map place_view places) spot
+is_told p s i info run places spot fits is_info is_places so =
+    let it = is_placed p s i info run places spot fits is_info is_places so in
+    subst (λ xs. Tells xs spot) (sym (placed p s info.proc it.decl places fits it.is is_places))
+    (subst (Tells (block_places (stmts_view it.decl.body) 0 None)) (sym it.spot_so) (body_is (stmts_view it.decl.body) run.at).1)
+
+pub body_room : (p : Program) (procs : List ProcDecl) (i : ℕ) (q : ProcDecl) (body : List Stmt) → procs ≡ p.procs → i < length procs → q ≡ get_or procs i q
+    → body ≡ q.body → HasRoom (program_view p) → size (stmts_view body) < 18446744073709551615
+body_room p procs i q body same lt is whole room =
+    subst (λ (xs : List Stmt). size (stmts_view xs) < 18446744073709551615) (sym whole) (has_space p i q room (proc_here p procs i q same lt is))

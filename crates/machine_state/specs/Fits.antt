@@ -1,5 +1,5 @@
 -- Which states are states of a program, and which steps are steps of it.
-use Rattle.std.specs.Prelude.{◌≡◌, ℕ, ◌<◌, ◌≤◌, true, length, map, All, Some, ⊤}
+use Rattle.std.specs.Prelude.{◌≡◌, ℕ, ◌<◌, ◌≤◌, true, List, length, map, All, Some, None, ⊤}
 use Rattle.std.specs.List.{list_any}
 use Rattle.std.specs.List.Sorted.{IsStrictlyIncreasing}
 use Rattle.rp_value.specs.Values.{Val}
@@ -17,6 +17,9 @@ use Rattle.crdt_truth.specs.declared.reading.Info.{Info}
 use Rattle.event_machine.specs.Machine.{is_known}
 use Rattle.event_machine.specs.WellFormed.{At, IsWellFormed}
 use Rattle.event_machine.specs.TypedStates.{IsTyped}
+use Rattle.code_points.specs.declared.table.Place.{Place}
+use Rattle.code_points.specs.Places.{block_places}
+use Rattle.code_points.specs.PointView.{place_view}
 use Rattle.code_points.specs.Points.{size}
 use Rattle.machine_state.specs.declared.state.Run.{Run}
 use Rattle.machine_state.specs.declared.state.State.{State}
@@ -26,6 +29,10 @@ use Rattle.machine_state.specs.StateView.{state_view}
 -- the points of each procedure have numbers of 64 bits
 abbrev pub HasRoom : Prog → Type 0
 HasRoom p = (n : ℕ) (q : Proc) → At p.procs n q → size q.body < 18446744073709551615
+
+-- of each procedure its points
+abbrev pub AreProcPlaces : List Proc → List (List Place) → Type 0
+AreProcPlaces procs all = map (map place_view) all ≡ map (λ q. block_places q.body 0 None) procs
 
 -- what the lists of a state keep, whatever the program
 pub record IsKept (s : State) : Type 0 where
@@ -51,6 +58,7 @@ KnowsResults p s = (x : Val) → list_any (same_val x) (map value_view s.known) 
 
 pub record Fits (p : Program) (s : State) : Type 0 where
   pub room : HasRoom (program_view p)
+  pub places : AreProcPlaces (program_view p).procs s.places
   pub well_formed : IsWellFormed (program_view p) (state_view (program_view p) s)
   pub typed : IsTyped (program_view p) (state_view (program_view p) s)
   pub kept : IsKept s

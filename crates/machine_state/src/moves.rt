@@ -12,7 +12,7 @@ use crdt_defs::CallRec;
 use crdt_truth::{Info, Outcome};
 use rp_value::{List, Memory, Value};
 
-impl State {
+impl<'p> State<'p> {
     /// Adds a transaction of the invocation, and its marker. On `Memory` nothing changes.
     pub fn open(&mut self, i: u32, marker: CallRec) -> Result<(), Memory>
         requires { MayFollow (length self.old.history) (call_view marker) }

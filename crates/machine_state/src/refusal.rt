@@ -102,7 +102,7 @@ fn another_point(action: Option<Action>, next: Action) -> Option<Refusal>
     }
 }
 
-impl State {
+impl<'p> State<'p> {
     /// Where the invocation can't do the action: there is none, it isn't running, or it does something else next.
     fn not_at(&self, p: &Program, i: u32, action: Option<Action>) -> Option<Refusal>
         requires { Fits p.now self.now }

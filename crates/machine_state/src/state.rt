@@ -13,16 +13,16 @@ ghost use Rattle.code_points.specs.PointView.{spot_view};
 ghost use Rattle.code_points.specs.Points.{does_at};
 ghost use Rattle.crdt_truth.specs.declared.reading.Info.{Info};
 ghost use Rattle.machine_state.specs.StateView.{state_view};
-ghost use Rattle.machine_state.specs.Fits.{Fits, HasRoom};
+ghost use Rattle.machine_state.specs.Fits.{AreProcPlaces, Fits, HasRoom};
 ghost use Rattle.machine_state.specs.Accessors as asked;
-ghost use Rattle.machine_state.specs.Spots.{IsSpot, IsWithin};
+ghost use Rattle.machine_state.specs.Spots.{HasRest, IsSpot, IsTold, IsWithin};
 
 use crate::table::Table;
-use code_points::{Spot, next_at, size, spot_in};
+use code_points::{Place, Spot, next_at, places_of, rest_at, size, spot_at};
 use crdt_lib::History;
 use crdt_truth::{Info, Outcome};
 use machine_tests::{IndexedHistory, has_atom};
-use rp_lang::{Action, ProcDecl, Program, Stmt, StmtKind};
+use rp_lang::{Action, Program, Stmt, StmtKind};
 use rp_value::{List, Memory, Value};
 use std::alloc::Global;
 
@@ -50,8 +50,10 @@ pub struct Run {
 
 /// A state of the machine. Calls, transactions and invocations are numbered from 0, in the order in which they came.
 #[derive(Drop)]
-pub struct State {
+pub struct State<'p> {
     pub universe: u32,
+    /// Of each procedure of the program its points.
+    pub places: Table<List<Place<'p>>>,
     pub history: IndexedHistory,
     /// Of each transaction the invocation that began it.
     pub owners: Table<u32>,
@@ -67,10 +69,10 @@ pub struct State {
     pub known: Table<Value>,
 }
 
-impl State {
-    /// The state without a call, a transaction, an invocation or an identifier. It takes no memory, and answers `Memory`
-    /// where a procedure has more points than numbers of 64 bits tell apart.
-    pub fn empty(alloc: Global, p: &Program, universe: u32) -> Result<State, Memory>
+impl<'p> State<'p> {
+    /// The state without a call, a transaction, an invocation or an identifier. It takes memory for the points of the
+    /// program's procedures.
+    pub fn empty(alloc: Global, p: &'p Program, universe: u32) -> Result<State<'p>, Memory>
         requires some { 1 ≤ universe }
         ensures state { IfOk result (λ s. state_view (program_view p.now) s ≡ seen.empty universe) }
         ensures fits { IfOk result (λ s. Fits p.now s) }
@@ -78,8 +80,10 @@ impl State {
         if !has_room(p) {
             return Err(Memory);
         }
+        let places = all_places(alloc, p)?;
         Ok(State {
             universe,
+            places,
             history: IndexedHistory::new(alloc),
             owners: Table::new(alloc),
             committed: Table::new(alloc),
@@ -215,27 +219,33 @@ impl State {
         }
     }
 
-    /// The procedure of the invocation, which the program has.
-    pub(crate) fn decl_of<'a>(&self, p: &'a Program, inv: u32) -> &'a ProcDecl
+    /// The points of the invocation's procedure, which the program has.
+    fn places_in(&self, p: &Program, inv: u32) -> &List<Place<'p>>
         requires fits { Fits p.now self.now }
         requires within { inv < length self.now.infos }
-        ensures { (info : Info) → At self.now.infos inv info → slice_get p.now.procs info.proc ≡ Some result.now }
+        ensures { (info : Info) → At self.now.infos inv info → slice_get self.now.places info.proc ≡ Some result.now }
     {
-        p.procs.get(self.infos.get(inv).proc as usize)
+        self.places.get(self.infos.get(inv).proc)
     }
 
     /// What comes next in the invocation's procedure; nothing where that ends.
-    pub fn spot<'a>(&self, p: &'a Program, inv: u32) -> Option<Spot<'a>>
+    pub fn spot(&self, p: &Program, inv: u32) -> Option<Spot<'p>>
         requires fits { Fits p.now self.now }
         requires within { inv < length self.now.infos }
         ensures is { IsSpot (program_view p.now) self.now inv (option_map spot_view result) }
         ensures room { IsWithin 18446744073709551614 (option_map spot_view result) }
+        ensures told { IsTold self.now inv (option_map spot_view result) }
     {
-        spot_in(
-            self.decl_of(p, inv).body.as_slice(),
-            0,
-            self.runs.get(inv).at,
-        )
+        spot_at(self.places_in(p, inv), self.runs.get(inv).at)
+    }
+
+    /// How many points the block of this point of the invocation's procedure has from there on.
+    pub fn rest_at(&self, p: &Program, inv: u32, at: u64) -> u64
+        requires fits { Fits p.now self.now }
+        requires within { inv < length self.now.infos }
+        ensures { HasRest self.now inv at result }
+    {
+        rest_at(self.places_in(p, inv), at)
     }
 
     /// What the invocation does next, whether it is running or not.
@@ -245,7 +255,7 @@ impl State {
         ensures { option_map (λ i. spec.next_action i.left)
             (slice_get (state_view (program_view p.now) self.now).invocations inv) ≡ Some (action_view result) }
     {
-        next_at(self.decl_of(p, inv).body.as_slice(), self.runs.get(inv).at)
+        next_at(self.places_in(p, inv), self.runs.get(inv).at)
     }
 
     /// The id type of the next `new`, whether the invocation is running or not.
@@ -292,4 +302,16 @@ fn has_room(p: &Program) -> bool
         }
     }
     true
+}
+
+/// Of each procedure its points.
+fn all_places<'p>(alloc: Global, p: &'p Program) -> Result<Table<List<Place<'p>>>, Memory>
+    requires room { HasRoom (program_view p.now) }
+    ensures { IfOk result (λ places. AreProcPlaces (program_view p.now).procs places) }
+{
+    let mut all = Table::new(alloc);
+    for q in p.procs.as_slice() {
+        all.push(places_of(alloc, q.body.as_slice())?)?;
+    }
+    Ok(all)
 }

@@ -6,7 +6,7 @@ use Rattle.event_machine.specs.Code.{Code, Return}
 use Rattle.event_machine.specs.Machine as spec
 use Rattle.event_machine.specs.States as seen
 use Rattle.machine_locals.proofs.LocalLemmas.{local_nothing}
-use Rattle.machine_state.specs.Spots.{IsWithin}
+use Rattle.machine_state.specs.Spots.{IsTold, IsWithin}
 use Rattle.machine_state.proofs.FitsLemmas.{left_by}
 use Rattle.machine_locals.proofs.locals.local.Goals as goal
 
@@ -17,6 +17,9 @@ run_stmt-requires-clause-next c = λ inv at.
 
 pub run_stmt-requires-clause-room : goal.run_stmt-requires-clause-room
 run_stmt-requires-clause-room c = subst (λ s. IsWithin 18446744073709551614 (Some (spot_view s))) c.in-Some-Before.field-0-is c.in-Some-Before.ensures.room
+
+pub run_stmt-requires-clause-told : goal.run_stmt-requires-clause-told
+run_stmt-requires-clause-told c = subst (λ s. IsTold c.args.s.now c.args.i (Some (spot_view s))) c.in-Some-Before.field-0-is c.in-Some-Before.ensures.told
 
 pub returns-in-Some-Closing-clause-ok : goal.returns-in-Some-Closing-clause-ok
 returns-in-Some-Closing-clause-ok c =

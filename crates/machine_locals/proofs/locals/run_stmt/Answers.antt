@@ -1,7 +1,6 @@
-use Rattle.std.proofs.Common.{min, ◌≡◌, ℕ, ◌+◌, ◌≤◌, List, slice_get, ap, ◌∙◌, sym, arith}
+use Rattle.std.proofs.Common.{◌≡◌, ℕ, ◌+◌, ◌≤◌, List, slice_get, ap, ◌∙◌, sym, arith}
 use Rattle.rp_lang.specs.ProgramView.{program_view}
 use Rattle.rp_lang.specs.Stmts.{St, If}
-use Rattle.rp_lang.specs.declared.stmt.Stmt.{Stmt}
 use Rattle.rp_lang.specs.declared.stmt.StmtArm.{StmtArm}
 use Rattle.rp_lang.specs.Views.{expr_view, formula_view, stmt_view, stmts_view, kind_view, stmt_arms_view}
 use Rattle.rp_lang.proofs.StmtViews.{stmt_view-what, kind_view-Put, kind_view-Decide, kind_view-New, kind_view-Operate, kind_view-If, kind_view-Match, kind_view-Atomic, kind_view-Assert}
@@ -10,6 +9,7 @@ use Rattle.event_machine.specs.Code.{Code, Choose, Match}
 use Rattle.event_machine.specs.Machine as spec
 use Rattle.event_machine.specs.States as seen
 use Rattle.machine_locals.proofs.LocalLemmas.{local_nothing, quiet_return}
+use Rattle.machine_locals.proofs.PartLemmas.{then_told, arms_told}
 use Rattle.machine_state.specs.StateView.{left_of}
 use Rattle.machine_locals.proofs.locals.run_stmt.Goals as goal
 
@@ -29,18 +29,15 @@ pub choose-requires-clause-next : goal.choose-requires-clause-next
 choose-requires-clause-next c = λ inv at.
     let from : ℕ → Code = left_of (slice_get (program_view c.args.p.now).procs inv.proc) in
     let n = c.args.at in
-    let then_ = stmts_view c.in-If.then_ in
+    let then_ = stmts_view c.in-If._then in
     let else_ = stmts_view c.in-If._else in
     let is : stmt_view c.args.stmt.now ≡ If c.args.stmt.now.at (formula_view c.in-If.f) then_ else_ =
     stmt_view-what c.args.stmt.now ∙ ap (λ k. kind_view k c.args.stmt.now.at) c.in-If.is ∙ kind_view-If _ _ _ _ in
-    let points : inner (stmt_view c.args.stmt.now) ≡ size then_ + 1 + (size else_ + 1) = ap inner is in
-    let found : c.size.result ≡ min (size then_) 18446744073709551615 =
-    c.size.ensures ∙ ap (λ (xs : List Stmt). min (size (stmts_view xs)) 18446744073709551615) c.as_slice.ensures.items in
-    let room : n + inner (stmt_view c.args.stmt.now) + 1 ≤ 18446744073709551614 = c.requires.room in
-    let sized : size then_ ≡ c.size.result = omega arith in
+    let found : c.rest_at.result ≡ size then_ = then_told c.args.p.now c.args.s.now c.args.i n _ c.args.stmt.now.at (formula_view c.in-If.f) then_ else_ c.rest_at.result
+        c.requires.fits c.requires.within is c.requires.told c.rest_at.ensures in
     c.requires.next inv at
     ∙ ap (λ (s : St). does_at from n s) is
-    ∙ ap (λ m. Choose (formula_view c.in-If.f) (from (n + 1)) (from (n + 1 + (m + 1)))) sized
+    ∙ ap (λ m. Choose (formula_view c.in-If.f) (from (n + 1)) (from (n + 1 + (m + 1)))) (sym found)
 
 pub enter-requires-clause-next : goal.enter-requires-clause-next
 enter-requires-clause-next c = λ inv at.
@@ -57,6 +54,12 @@ enter-requires-clause-room c =
     ap (λ (xs : List StmtArm). arms_size (stmt_arms_view xs)) c.as_slice-in-Match.ensures.items in
     let room : c.args.at + inner (stmt_view c.args.stmt.now) + 1 ≤ 18446744073709551614 = c.requires.room in
     omega arith
+
+pub enter-requires-clause-told : goal.enter-requires-clause-told
+enter-requires-clause-told c =
+    arms_told c.args.s.now c.args.i c.args.at _ c.args.stmt.now.at (expr_view c.in-Match.on) (stmt_arms_view c.in-Match.arms) _
+    (stmt_view-what c.args.stmt.now ∙ ap (λ k. kind_view k c.args.stmt.now.at) c.in-Match.is ∙ kind_view-Match _ _ _)
+    (ap stmt_arms_view c.as_slice-in-Match.ensures.items) c.requires.told
 
 pub test-requires-clause-next : goal.test-requires-clause-next
 test-requires-clause-next c = λ inv at.
