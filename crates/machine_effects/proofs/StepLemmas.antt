@@ -1,5 +1,5 @@
 -- A state fits after a label.
-use Rattle.std.proofs.Common.{◌≡◌, sym, ap, subst, None, ◌⊎◌, inl, inr}
+use Rattle.std.proofs.Common.{◌≡◌, sym, ap, subst, None, ◌⊎◌, inl, inr, map, ◌∙◌}
 use Rattle.rp_lang.specs.Programs.{Prog}
 use Rattle.rp_lang.specs.declared.event.Event.{Event}
 use Rattle.rp_lang.specs.declared.program.Program.{Program}
@@ -12,6 +12,7 @@ use Rattle.event_machine.proofs.KeptLemmas.{step-formed}
 use Rattle.event_machine.proofs.TypedKept.{step-typed}
 use Rattle.event_machine.proofs.ProgramFits.{procs-fit}
 use Rattle.machine_state.specs.declared.state.State.{State}
+use Rattle.code_points.specs.PointView.{place_view}
 use Rattle.machine_state.specs.Fits.{Fits}
 use Rattle.machine_state.specs.StateView.{state_view}
 use Rattle.machine_effects.specs.Steps.{Tells, Does}

@@ -120,7 +120,7 @@ fn operation_point<'a>(at: u64, stmt: &'a Stmt) -> Option<(u32, &'a [Expr], u64)
 }
 
 /// The operation that is next, its arguments and the point behind.
-pub fn behind_operation<'a>(s: &State, p: &'a Program, i: u32) -> Option<(u32, &'a [Expr], u64)>
+pub fn behind_operation<'p>(s: &State<'p>, p: &Program, i: u32) -> Option<(u32, &'p [Expr], u64)>
     requires fits { Fits p.now s.now }
     requires within { i < length s.now.infos }
     ensures { (inv : Invocation) → At (state_view (program_view p.now) s.now).invocations i inv
@@ -155,7 +155,7 @@ fn returned_by<'a>(_at: u64, stmt: &'a Stmt) -> Option<&'a Expr>
 }
 
 /// The expression whose value is returned, if that is next.
-pub fn returned<'a>(s: &State, p: &'a Program, i: u32) -> Option<&'a Expr>
+pub fn returned<'p>(s: &State<'p>, p: &Program, i: u32) -> Option<&'p Expr>
     requires fits { Fits p.now s.now }
     requires within { i < length s.now.infos }
     ensures { (inv : Invocation) → At (state_view (program_view p.now) s.now).invocations i inv

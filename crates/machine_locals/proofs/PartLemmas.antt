@@ -2,7 +2,7 @@
 use Rattle.std.proofs.Common.{◌≡◌, ℕ, ◌+◌, ◌<◌, ◌≤◌, sym, ap, ◌∙◌, subst, List, map, Some, arith, get_or, drop, length}
 use Rattle.rp_span.specs.declared.Span.{Span}
 use Rattle.rp_lang.specs.Exprs.{Ex}
-use Rattle.rp_lang.specs.Formulas.{Fm}
+use Rattle.rp_lang.specs.Formulas.{Fo}
 use Rattle.rp_lang.specs.Stmts.{St, Sts, StArms, If, Match}
 use Rattle.rp_lang.specs.declared.program.Program.{Program}
 use Rattle.rp_lang.specs.declared.stmt.StmtArm.{StmtArm}
@@ -20,7 +20,7 @@ use Rattle.machine_state.specs.Spots.{HasRest, IsTold}
 use Rattle.machine_state.proofs.FitsLemmas.{places_within}
 use Rattle.machine_state.proofs.StateLemmas.{some_at}
 
-pub then_told : (p : Program) (s : State) (i n : ℕ) (stmt : St) (at : Span) (f : Fm) (then_ else_ : Sts) (rest : ℕ) → Fits p s → i < length s.infos
+pub then_told : (p : Program) (s : State) (i n : ℕ) (stmt : St) (at : Span) (f : Fo) (then_ else_ : Sts) (rest : ℕ) → Fits p s → i < length s.infos
     → stmt ≡ If at f then_ else_ → IsTold s i (Some (Before n stmt)) → HasRest s i (n + 1) rest → rest ≡ size then_
 then_told p s i n stmt at f then_ else_ rest fits within is told has =
     let info = some_at s.infos i within in
@@ -37,7 +37,7 @@ arms_told s i n stmt at on arms others is same told info places at_info at_place
 -- # A walk over arms
 
 -- an arm's end and the arms behind it are told
-record ArmTold (s : State) (i : ℕ) (arms : List StmtArm) (k at : ℕ) (arm : StmtArm) (rest : ℕ) : Type 0 where
+pub record ArmTold (s : State) (i : ℕ) (arms : List StmtArm) (k at : ℕ) (arm : StmtArm) (rest : ℕ) : Type 0 where
   pub size_so : rest ≡ size (stmts_view (out-StmtArm arm).body)
   pub others : HasArms s i (stmt_arms_view (drop (k + 1) arms)) (at + (rest + 1))
 

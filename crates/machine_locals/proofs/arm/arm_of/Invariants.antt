@@ -7,6 +7,6 @@ use Rattle.machine_locals.proofs.arm.arm_of.Given as goal
 abbrev pub invariant-loop-arm : goal.invariant-loop-arm
 invariant-loop-arm l = record {
   rest : arm_in (stmt_arms_view (drop l.arm-index l.arms)) l.con l.at ≡ arm_in (stmt_arms_view l.arms) l.con l.first;
-  told : HasArms l.s.now l.i (stmt_arms_view (drop l.arm-index l.arms)) l.at;
+  told : HasArms l.s l.i (stmt_arms_view (drop l.arm-index l.arms)) l.at;
   room : l.at + arms_size (stmt_arms_view (drop l.arm-index l.arms)) ≡ l.first + arms_size (stmt_arms_view l.arms);
 }

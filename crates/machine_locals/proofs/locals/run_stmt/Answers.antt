@@ -25,6 +25,26 @@ decide-requires-clause-next c = λ inv at.
     ∙ ap (λ (s : St). does_at (left_of (slice_get (program_view c.args.p.now).procs inv.proc)) c.args.at s)
     (stmt_view-what c.args.stmt.now ∙ ap (λ k. kind_view k c.args.stmt.now.at) c.in-Decide.is ∙ kind_view-Decide _ _ _)
 
+pub overflow_add-other-in-If : goal.overflow_add-other-in-If
+overflow_add-other-in-If c =
+    let is : stmt_view c.args.stmt.now ≡ If c.args.stmt.now.at (formula_view c.in-If.f) (stmts_view c.in-If._then) (stmts_view c.in-If._else) =
+    stmt_view-what c.args.stmt.now ∙ ap (λ k. kind_view k c.args.stmt.now.at) c.in-If.is ∙ kind_view-If _ _ _ _ in
+    let found : c.rest_at.result ≡ size (stmts_view c.in-If._then) = then_told c.args.p.now c.args.s.now c.args.i c.args.at _ c.args.stmt.now.at (formula_view c.in-If.f) (stmts_view c.in-If._then) (stmts_view c.in-If._else) c.rest_at.result
+        c.requires.fits c.requires.within is c.requires.told c.rest_at.ensures in
+    let points : inner (stmt_view c.args.stmt.now) ≡ size (stmts_view c.in-If._then) + 1 + (size (stmts_view c.in-If._else) + 1) = ap inner is in
+    let room : c.args.at + inner (stmt_view c.args.stmt.now) + 1 ≤ 18446744073709551614 = c.requires.room in
+    omega arith
+
+pub overflow_add-other-in-If-2 : goal.overflow_add-other-in-If-2
+overflow_add-other-in-If-2 c =
+    let is : stmt_view c.args.stmt.now ≡ If c.args.stmt.now.at (formula_view c.in-If.f) (stmts_view c.in-If._then) (stmts_view c.in-If._else) =
+    stmt_view-what c.args.stmt.now ∙ ap (λ k. kind_view k c.args.stmt.now.at) c.in-If.is ∙ kind_view-If _ _ _ _ in
+    let found : c.rest_at.result ≡ size (stmts_view c.in-If._then) = then_told c.args.p.now c.args.s.now c.args.i c.args.at _ c.args.stmt.now.at (formula_view c.in-If.f) (stmts_view c.in-If._then) (stmts_view c.in-If._else) c.rest_at.result
+        c.requires.fits c.requires.within is c.requires.told c.rest_at.ensures in
+    let points : inner (stmt_view c.args.stmt.now) ≡ size (stmts_view c.in-If._then) + 1 + (size (stmts_view c.in-If._else) + 1) = ap inner is in
+    let room : c.args.at + inner (stmt_view c.args.stmt.now) + 1 ≤ 18446744073709551614 = c.requires.room in
+    omega arith
+
 pub choose-requires-clause-next : goal.choose-requires-clause-next
 choose-requires-clause-next c = λ inv at.
     let from : ℕ → Code = left_of (slice_get (program_view c.args.p.now).procs inv.proc) in
@@ -44,14 +64,14 @@ enter-requires-clause-next c = λ inv at.
     let from : ℕ → Code = left_of (slice_get (program_view c.args.p.now).procs inv.proc) in
     c.requires.next inv at
     ∙ ap (λ (s : St). does_at from c.args.at s) (stmt_view-what c.args.stmt.now ∙ ap (λ k. kind_view k c.args.stmt.now.at) c.in-Match.is ∙ kind_view-Match _ _ _)
-    ∙ ap (λ (xs : List StmtArm). Match (expr_view c.in-Match.on) (arms_from from (stmt_arms_view xs) (c.args.at + 1))) (sym c.as_slice-in-Match.ensures.items)
+    ∙ ap (λ (xs : List StmtArm). Match (expr_view c.in-Match.on) (arms_from from (stmt_arms_view xs) (c.args.at + 1))) (sym c.as_slice.ensures.items)
 
 pub enter-requires-clause-room : goal.enter-requires-clause-room
 enter-requires-clause-room c =
     let points : inner (stmt_view c.args.stmt.now) ≡ arms_size (stmt_arms_view c.in-Match.arms) =
     ap inner (stmt_view-what c.args.stmt.now ∙ ap (λ k. kind_view k c.args.stmt.now.at) c.in-Match.is ∙ kind_view-Match _ _ _) in
-    let same : arms_size (stmt_arms_view c.as_slice-in-Match.result.now) ≡ arms_size (stmt_arms_view c.in-Match.arms) =
-    ap (λ (xs : List StmtArm). arms_size (stmt_arms_view xs)) c.as_slice-in-Match.ensures.items in
+    let same : arms_size (stmt_arms_view c.as_slice.result.now) ≡ arms_size (stmt_arms_view c.in-Match.arms) =
+    ap (λ (xs : List StmtArm). arms_size (stmt_arms_view xs)) c.as_slice.ensures.items in
     let room : c.args.at + inner (stmt_view c.args.stmt.now) + 1 ≤ 18446744073709551614 = c.requires.room in
     omega arith
 
@@ -59,7 +79,7 @@ pub enter-requires-clause-told : goal.enter-requires-clause-told
 enter-requires-clause-told c =
     arms_told c.args.s.now c.args.i c.args.at _ c.args.stmt.now.at (expr_view c.in-Match.on) (stmt_arms_view c.in-Match.arms) _
     (stmt_view-what c.args.stmt.now ∙ ap (λ k. kind_view k c.args.stmt.now.at) c.in-Match.is ∙ kind_view-Match _ _ _)
-    (ap stmt_arms_view c.as_slice-in-Match.ensures.items) c.requires.told
+    (ap stmt_arms_view c.as_slice.ensures.items) c.requires.told
 
 pub test-requires-clause-next : goal.test-requires-clause-next
 test-requires-clause-next c = λ inv at.
