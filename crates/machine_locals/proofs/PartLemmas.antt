@@ -1,5 +1,6 @@
 -- Where the parts of statements end, as the list of their procedure's points tells it.
-use Rattle.std.proofs.Common.{◌≡◌, ℕ, ◌+◌, ◌<◌, ◌≤◌, sym, ap, ◌∙◌, subst, List, map, Some, arith, get_or, drop, length}
+use Rattle.std.proofs.Common.{◌≡◌, ℕ, ◌+◌, ◌<◌, false, nat_eq, sym, ◌∙◌, subst, List, map, Some, get_or, drop, length}
+use Rattle.std.proofs.lemmas.Bool.{ne_eqb}
 use Rattle.rp_span.specs.declared.Span.{Span}
 use Rattle.rp_lang.specs.Exprs.{Ex}
 use Rattle.rp_lang.specs.Formulas.{Fo}
@@ -8,7 +9,6 @@ use Rattle.rp_lang.specs.declared.program.Program.{Program}
 use Rattle.rp_lang.specs.declared.stmt.StmtArm.{StmtArm}
 use Rattle.rp_lang.specs.declared.stmt.StmtKind.TheViews.{out-StmtArm}
 use Rattle.rp_lang.specs.Views.{stmts_view, stmt_arms_view}
-use Rattle.code_points.specs.declared.table.Place.{Place}
 use Rattle.code_points.specs.Places.{Tells, TellsArms}
 use Rattle.code_points.specs.PointView.{place_view}
 use Rattle.code_points.specs.Points.{Before, size}
@@ -55,3 +55,6 @@ arm_told p s i arms k at arm rest fits within lt is told has =
           subst (λ (m : ℕ). TellsArms (map place_view list) (stmt_arms_view (drop (k + 1) arms)) (at + (m + 1))) (sym so)
           (subst (λ (x : StArms). TellsArms (map place_view list) x at) split (told an_info list at_info at_list)).1;
     }
+
+pub not_same : (a b : ℕ) → (a ≡ b → ⊥) → nat_eq a b ≡ false
+not_same a b apart = ne_eqb a b apart

@@ -259,7 +259,7 @@ placed : (p : Program) (s : State) (n : ℕ) (decl : ProcDecl) (places : List Pl
 placed p s n decl places fits is_decl is_places =
     let here : slice_get (map (map place_view) s.places) n ≡ Some (map place_view places) = slice_get-map (map place_view) s.places n ∙ ap (λ o. option_map (map place_view) o) is_places in
     let there : slice_get (map points_of (program_view p).procs) n ≡ Some (points_of (proc_view decl))
-        = slice_get-map points_of (program_view p).procs n ∙ ap (λ o. option_map points_of o) (proc_at p n decl is_decl) in
+    = slice_get-map points_of (program_view p).procs n ∙ ap (λ o. option_map points_of o) (proc_at p n decl is_decl) in
     one_found (slice_get (map points_of (program_view p).procs) n) (map place_view places) (points_of (proc_view decl)) (ap (λ xs. slice_get xs n) (sym fits.places) ∙ here) there
 
 -- what the list of its procedure's points has at an invocation's point

@@ -30,7 +30,7 @@ overflow_add-other-in-If c =
     let is : stmt_view c.args.stmt.now ≡ If c.args.stmt.now.at (formula_view c.in-If.f) (stmts_view c.in-If._then) (stmts_view c.in-If._else) =
     stmt_view-what c.args.stmt.now ∙ ap (λ k. kind_view k c.args.stmt.now.at) c.in-If.is ∙ kind_view-If _ _ _ _ in
     let found : c.rest_at.result ≡ size (stmts_view c.in-If._then) = then_told c.args.p.now c.args.s.now c.args.i c.args.at _ c.args.stmt.now.at (formula_view c.in-If.f) (stmts_view c.in-If._then) (stmts_view c.in-If._else) c.rest_at.result
-        c.requires.fits c.requires.within is c.requires.told c.rest_at.ensures in
+    c.requires.fits c.requires.within is c.requires.told c.rest_at.ensures in
     let points : inner (stmt_view c.args.stmt.now) ≡ size (stmts_view c.in-If._then) + 1 + (size (stmts_view c.in-If._else) + 1) = ap inner is in
     let room : c.args.at + inner (stmt_view c.args.stmt.now) + 1 ≤ 18446744073709551614 = c.requires.room in
     omega arith
@@ -40,7 +40,7 @@ overflow_add-other-in-If-2 c =
     let is : stmt_view c.args.stmt.now ≡ If c.args.stmt.now.at (formula_view c.in-If.f) (stmts_view c.in-If._then) (stmts_view c.in-If._else) =
     stmt_view-what c.args.stmt.now ∙ ap (λ k. kind_view k c.args.stmt.now.at) c.in-If.is ∙ kind_view-If _ _ _ _ in
     let found : c.rest_at.result ≡ size (stmts_view c.in-If._then) = then_told c.args.p.now c.args.s.now c.args.i c.args.at _ c.args.stmt.now.at (formula_view c.in-If.f) (stmts_view c.in-If._then) (stmts_view c.in-If._else) c.rest_at.result
-        c.requires.fits c.requires.within is c.requires.told c.rest_at.ensures in
+    c.requires.fits c.requires.within is c.requires.told c.rest_at.ensures in
     let points : inner (stmt_view c.args.stmt.now) ≡ size (stmts_view c.in-If._then) + 1 + (size (stmts_view c.in-If._else) + 1) = ap inner is in
     let room : c.args.at + inner (stmt_view c.args.stmt.now) + 1 ≤ 18446744073709551614 = c.requires.room in
     omega arith
@@ -54,7 +54,7 @@ choose-requires-clause-next c = λ inv at.
     let is : stmt_view c.args.stmt.now ≡ If c.args.stmt.now.at (formula_view c.in-If.f) then_ else_ =
     stmt_view-what c.args.stmt.now ∙ ap (λ k. kind_view k c.args.stmt.now.at) c.in-If.is ∙ kind_view-If _ _ _ _ in
     let found : c.rest_at.result ≡ size then_ = then_told c.args.p.now c.args.s.now c.args.i n _ c.args.stmt.now.at (formula_view c.in-If.f) then_ else_ c.rest_at.result
-        c.requires.fits c.requires.within is c.requires.told c.rest_at.ensures in
+    c.requires.fits c.requires.within is c.requires.told c.rest_at.ensures in
     c.requires.next inv at
     ∙ ap (λ (s : St). does_at from n s) is
     ∙ ap (λ m. Choose (formula_view c.in-If.f) (from (n + 1)) (from (n + 1 + (m + 1)))) (sym found)
