@@ -8,4 +8,4 @@ use Rattle.schedule_fmt.proofs.values.added.Goals as goal
 
 pub returns-clause-found : goal.returns-clause-found
 returns-clause-found c = λ o h.
-    (c.in_ok-value.value, (c.in_ok-push.ensures.ok, subst (λ (read : Result (Value × ℕ) Stop). IfOk read (λ r. o ≡ Some (value_at r))) c.in_ok-value.is h))
+    (c.in_ok-value.value, c.in_ok-push.ensures.ok, subst (λ (read : Result (Value × ℕ) Stop). IfOk read (λ r. o ≡ Some (value_at r))) c.in_ok-value.is h)

@@ -33,8 +33,8 @@ args-returns-then-next_is-clause-found t c =
     let closes : spec.next_is 41 text to ≡ true = search rules in
     let vs = map value_view c.loop-i.args in
     arg_last read text tys (spec.args_by read text tys c.args.from) (length text) c.loop-i.i c.loop-i.at vs v to (omega arith)
-    (subst (λ ty. read ty c.loop-i.at ≡ Some (v, to)) c.asked_at.ensures a.1.1) closes c.loop-i.invariant
-    ∙ ap (λ us. Some (vals_of us, to + 1)) (sym (pushed_map value_view c.loop-i.args c.value.new.values a.0 a.1.0))
+    (subst (λ ty. read ty c.loop-i.at ≡ Some (v, to)) c.asked_at.ensures a.2) closes c.loop-i.invariant
+    ∙ ap (λ us. Some (vals_of us, to + 1)) (sym (pushed_map value_view c.loop-i.args c.value.new.values a.0 a.1))
 
 pub args-returns-then-not-next_is-clause-none : goal.args-returns-then-not-next_is-clause-none
 args-returns-then-not-next_is-clause-none t c = λ h.
@@ -47,7 +47,7 @@ args-returns-then-not-next_is-clause-none t c = λ h.
     let closes : spec.next_is 41 text to ≡ false = search rules in
     let follows : spec.next_is 44 text to ≡ false = search rules in
     arg_bad read text tys (spec.args_by read text tys c.args.from) (length text) c.loop-i.i c.loop-i.at (map value_view c.loop-i.args) v to (omega arith)
-    (subst (λ ty. read ty c.loop-i.at ≡ Some (v, to)) c.asked_at.ensures a.1.1) closes follows c.loop-i.invariant
+    (subst (λ ty. read ty c.loop-i.at ≡ Some (v, to)) c.asked_at.ensures a.2) closes follows c.loop-i.invariant
 
 pub args-loop-i-preserved : goal.args-loop-i-preserved
 args-loop-i-preserved t c =
@@ -60,8 +60,8 @@ args-loop-i-preserved t c =
     let closes : spec.next_is 41 text to ≡ false = search rules in
     let follows : spec.next_is 44 text to ≡ true = search rules in
     arg_more read text tys (spec.args_by read text tys c.args.from) (length text) c.loop-i.i c.loop-i.at (map value_view c.loop-i.args) v to (map value_view c.value.new.values) (omega arith)
-    (subst (λ ty. read ty c.loop-i.at ≡ Some (v, to)) c.asked_at.ensures a.1.1) closes follows
-    (pushed_map value_view c.loop-i.args c.value.new.values a.0 a.1.0) c.loop-i.invariant
+    (subst (λ ty. read ty c.loop-i.at ≡ Some (v, to)) c.asked_at.ensures a.2) closes follows
+    (pushed_map value_view c.loop-i.args c.value.new.values a.0 a.1) c.loop-i.invariant
 
 pub args-returns-clause-none : goal.args-returns-clause-none
 args-returns-clause-none t c = λ h.
@@ -89,7 +89,7 @@ con-returns-clause-found t c =
     let vs = values_view c.in_ok-args.args in
     let is = con_args p text c.args.depth c.args.asked c.args.at c.args.to c.in-Some.con (Some (vs, c.in_ok-args.end)) (omega arith) (sym c.in-Some.ensures) opens
     (subst (λ tys. read tys (c.args.to + 1) ≡ Some (vs, c.in_ok-args.end)) c.con_fields.ensures c.in_ok-args.ensures.found) in
-    (made.Con c.in-Some.con c.in_ok-args.args, (c.in_ok-push-2.ensures.ok, is ∙ ap (λ w. Some (w, c.in_ok-args.end)) (sym (value_view-Con c.in-Some.con c.in_ok-args.args))))
+    (made.Con c.in-Some.con c.in_ok-args.args, c.in_ok-push-2.ensures.ok, is ∙ ap (λ w. Some (w, c.in_ok-args.end)) (sym (value_view-Con c.in-Some.con c.in_ok-args.args)))
 
 pub con-returns-then-not-next_is-clause-found : goal.con-returns-then-not-next_is-clause-found
 con-returns-then-not-next_is-clause-found t c =
@@ -98,7 +98,7 @@ con-returns-then-not-next_is-clause-found t c =
     let closed : spec.next_is 40 text c.args.to ≡ false = search rules in
     let is = con_bare p text c.args.depth c.args.asked c.args.at c.args.to c.in-Some.con (omega arith) (sym c.in-Some.ensures) closed in
     let none = value_view-Con c.in-Some.con c.new.result ∙ ap (λ (xs : List Value). Con c.in-Some.con (values_view xs)) c.new.ensures in
-    (made.Con c.in-Some.con c.new.result, (c.in_ok-push.ensures.ok, is ∙ ap (λ w. Some (w, c.args.to)) (sym none)))
+    (made.Con c.in-Some.con c.new.result, c.in_ok-push.ensures.ok, is ∙ ap (λ w. Some (w, c.args.to)) (sym none))
 
 pub value-returns-then-next_is-clause-found : goal.value-returns-then-next_is-clause-found
 value-returns-then-next_is-clause-found t c =

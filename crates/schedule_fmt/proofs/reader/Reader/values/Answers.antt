@@ -32,8 +32,8 @@ loop-i-preserved c =
     let space : spec.next_is 32 text c.loop-i.at ≡ true = search rules in
     let a = c.in_ok-at.ensures.found in
     value_more p text tys (spec.values p text tys c.args.from) (length text) c.loop-i.i c.loop-i.at (map value_view c.loop-i.values) (value_view a.0) c.in_ok-at.at (map value_view c.add_value.new.values) (omega arith) space
-    (subst (λ ty. spec.whole_value p text ty (c.loop-i.at + 1) ≡ Some (value_view a.0, c.in_ok-at.at)) c.asked_at.ensures a.1.1)
-    (pushed_map value_view c.loop-i.values c.add_value.new.values a.0 a.1.0) c.loop-i.invariant
+    (subst (λ ty. spec.whole_value p text ty (c.loop-i.at + 1) ≡ Some (value_view a.0, c.in_ok-at.at)) c.asked_at.ensures a.2)
+    (pushed_map value_view c.loop-i.values c.add_value.new.values a.0 a.1) c.loop-i.invariant
 
 pub returns-clause-found : goal.returns-clause-found
 returns-clause-found c =

@@ -7,5 +7,5 @@ use Rattle.schedule_fmt.proofs.reader.Reader.whole_value.Goals as goal
 pub returns-in-Some-clause-found : goal.returns-in-Some-clause-found
 returns-in-Some-clause-found c =
     let a = c.in_ok-to.ensures.found in
-    let alone = a.1.0 ∙ ap (λ (vs : List Value). vs ++ a.0 ∷ []) c.new.ensures in
-    a.1.1 ∙ ap (λ (v : Value). Some (value_view v, c.in_ok-to.to)) (one_last a.0 c.in-Some.value c.pop.new.self (sym alone ∙ c.in-Some.ensures))
+    let alone = a.1 ∙ ap (λ (vs : List Value). vs ++ a.0 ∷ []) c.new-values.ensures in
+    a.2 ∙ ap (λ (v : Value). Some (value_view v, c.in_ok-to.to)) (one_last a.0 c.in-Some.value c.pop.new.self (sym alone ∙ c.in-Some.ensures))
