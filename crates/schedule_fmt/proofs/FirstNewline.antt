@@ -23,21 +23,24 @@ behind b text (Some k) first = (
   first.1,
 )
 
-mutual
-  pub first_is : (text : List ℕ) (from : ℕ) (r : Option ℕ) → IsFirstByte (is_byte 10) text r → position_from is_newline from text ≡ option_map (λ k. from + k) r
-  first_is [] from None first = refl
-  first_is [] from (Some k) first = absurd (let h : k < 0 = first.0.high in omega arith)
-  first_is (b ∷ text) from r first =
-      elim (cases_Bool (is_newline b)) [
-        | inl e ↦ here b text from e r first
-        | inr e ↦ there b text from e r first
-      ]
+-- what is told of the text behind it
+abbrev Told : List ℕ → ℕ → Type 0
+Told text from = (r : Option ℕ) → IsFirstByte (is_byte 10) text r → position_from is_newline from text ≡ option_map (λ k. from + k) r
 
-  there : (b : ℕ) (text : List ℕ) (from : ℕ) → is_newline b ≡ false → (r : Option ℕ) → IsFirstByte (is_byte 10) (b ∷ text) r
-      → cond (is_newline b) (Some from) (position_from is_newline (from + 1) text) ≡ option_map (λ k. from + k) r
-  there b text from e None first =
-      ap (λ t. cond t (Some from) (position_from is_newline (from + 1) text)) e ∙ first_is text (from + 1) None (behind b text None first)
-  there b text from e (Some zero) first = absurd (true≢false (sym first.1 ∙ e))
-  there b text from e (Some (suc k)) first =
-      ap (λ t. cond t (Some from) (position_from is_newline (from + 1) text)) e ∙ first_is text (from + 1) (Some k) (behind b text (Some k) first)
-      ∙ (let same : from + 1 + k ≡ from + suc k = omega arith in ap (λ m. Some m) same)
+there : (b : ℕ) (text : List ℕ) (from : ℕ) → is_newline b ≡ false → Told text (from + 1) → (r : Option ℕ) → IsFirstByte (is_byte 10) (b ∷ text) r
+    → cond (is_newline b) (Some from) (position_from is_newline (from + 1) text) ≡ option_map (λ k. from + k) r
+there b text from e told None first =
+    ap (λ t. cond t (Some from) (position_from is_newline (from + 1) text)) e ∙ told None (behind b text None first)
+there b text from e told (Some zero) first = absurd (true≢false (sym first.1 ∙ e))
+there b text from e told (Some (suc k)) first =
+    ap (λ t. cond t (Some from) (position_from is_newline (from + 1) text)) e ∙ told (Some k) (behind b text (Some k) first)
+    ∙ (let same : from + 1 + k ≡ from + suc k = omega arith in ap (λ m. Some m) same)
+
+pub first_is : (text : List ℕ) (from : ℕ) (r : Option ℕ) → IsFirstByte (is_byte 10) text r → position_from is_newline from text ≡ option_map (λ k. from + k) r
+first_is [] from None first = refl
+first_is [] from (Some k) first = absurd (let h : k < 0 = first.0.high in omega arith)
+first_is (b ∷ text) from r first =
+    elim (cases_Bool (is_newline b)) [
+      | inl e ↦ here b text from e r first
+      | inr e ↦ there b text from e (first_is text (from + 1)) r first
+    ]
