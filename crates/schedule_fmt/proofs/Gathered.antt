@@ -2,7 +2,7 @@
 use Rattle.std.proofs.Common.{◌≡◌, ℕ, suc, ◌+◌, ◌-◌, ◌<◌, ◌≤◌, Bool, true, false, List, [], ◌∷◌, ◌++◌, length, drop, map, slice_get, get_or, Option, Some, None, refl, sym, ap, ◌∙◌, arith, append_assoc, append-nil}
 use Rattle.std.specs.Prelude.{nat_le, if◌then◌else◌}
 use Rattle.std.specs.Option.{option_map}
-use Rattle.std.proofs.lemmas.List.{drop_more, drop_all, map-append}
+use Rattle.std.proofs.lemmas.List.{drop_more, drop_all, map-append, same_from_push}
 use Rattle.rp_value.specs.declared.tables.Ty.{Ty}
 use Rattle.rp_value.specs.Values.{Val, Vals, no_val, also_val}
 use Rattle.rp_value.specs.ValueView.{vals_of}
@@ -34,6 +34,9 @@ none_left n i h = omega arith
 
 pub pushed_map : {X V : Type 0} (view : X → V) (xs ys : List X) (x : X) → ys ≡ xs ++ x ∷ [] → map view ys ≡ map view xs ++ view x ∷ []
 pushed_map view xs ys x e = ap (map view) e ∙ map-append view xs (x ∷ [])
+
+pub one_last : {X : Type 0} (x y : X) (xs : List X) → x ∷ [] ≡ xs ++ y ∷ [] → x ≡ y
+one_last x y xs e = (same_from_push [] xs x y e).1
 
 -- # Characters of a string
 

@@ -1,3 +1,4 @@
+pub mod FirstNewline
 pub mod Gathered
 pub mod ValueSteps
 pub mod Weighed

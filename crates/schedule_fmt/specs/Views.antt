@@ -1,6 +1,6 @@
 -- What definitions speak of, of what the code has.
 pub use Rattle.step_labels.specs.StepLabels.{label_view}
-use Rattle.std.specs.Prelude.{ℕ, List, map}
+use Rattle.std.specs.Prelude.{◌≡◌, ℕ, List, [], ◌∷◌, ◌++◌, Option, Some, map}
 use Rattle.rp_value.specs.declared.value.Value.{Value}
 use Rattle.rp_value.specs.Values.{Val, Vals}
 use Rattle.rp_value.specs.ValueView.{value_view, values_view}
@@ -25,3 +25,7 @@ values_at r = (map value_view r.0, r.1)
 
 abbrev pub label_at : Step × ℕ → Label × ℕ
 label_at r = (label_view r.0, r.1)
+
+-- the list with the value that was read at its end, and the place behind its text
+abbrev pub Added : Option (Val × ℕ) → List Value → List Value → ℕ → Type 0
+Added o old new to = (v : Value) × (new ≡ old ++ v ∷ []) × (o ≡ Some (value_at (v, to)))

@@ -5,6 +5,8 @@ ghost use Rattle.rp_grammar.specs.Bytes as class;
 ghost use Rattle.schedule_fmt.specs.means.Reading as spec;
 ghost use Rattle.schedule_fmt.specs.Schedules.{is_name};
 
+use memchr::memchr;
+
 pub(crate) fn is_letter(b: u8) -> bool
     ensures { result ≡ class.is_letter b }
 {
@@ -119,12 +121,8 @@ pub(crate) fn newline(text: &[u8], from: usize) -> Option<usize>
     ensures is { result ≡ position_from spec.is_newline from (drop from text.now) }
     ensures within { IfSome result (λ end. (from ≤ end) × (end < length text.now)) }
 {
-    let mut at = from;
-    while at < text.len() {
-        if text[at] == b'\n' {
-            return Some(at);
-        }
-        at += 1;
+    match memchr(b'\n', rest(text, from)) {
+        Some(further) => Some(from + further),
+        None => None,
     }
-    None
 }

@@ -86,9 +86,7 @@ impl<'n, 'a> Reader<'n, 'a> {
             if !next_is(b' ', self.text, at) {
                 return Ok((values, at));
             }
-            let (value, to) = self.whole_value(asked_at(tys, i), at + 1)?;
-            values.push(value)?;
-            at = to;
+            at = self.add_value(asked_at(tys, i), at + 1, &mut values)?;
         }
         Ok((values, at))
     }

@@ -1,8 +1,9 @@
 //! Values at a place of a text.
-ghost use Rattle.std.specs.Prelude.{◌≡◌, ◌≤◌, length, Some, None, IfOk, IsErrOf, option_map};
+ghost use Rattle.std.specs.Prelude.{◌≡◌, ◌≤◌, ℕ, Option, length, Some, None, IfOk, IsErrOf};
+ghost use Rattle.rp_value.specs.Values.{Val};
 ghost use Rattle.schedule_fmt.specs.means.Readers.{prog};
 ghost use Rattle.schedule_fmt.specs.means.Reading as spec;
-ghost use Rattle.schedule_fmt.specs.Views.{value_at, args_at};
+ghost use Rattle.schedule_fmt.specs.Views.{Added, value_at, args_at};
 ghost use Rattle.schedule_fmt.specs.declared.stop.Stop.TheVariants as stop;
 
 use crate::bytes::{name_end, next_is, rest};
@@ -17,7 +18,20 @@ use rp_value::{List, Ty, Value};
 /// The most constructors that may stand inside each other.
 const DEPTH: u32 = 1_000;
 
+/// Adds what was read to the values, and gives the place behind its text.
+#[inline(always)]
+fn added(read: Result<(Value, usize), Stop>, values: &mut List<Value>) -> Result<usize, Stop>
+    ensures found { (o : Option (Val × ℕ)) → IfOk read (λ r. o ≡ Some (value_at r))
+        → IfOk result (Added o values.old values.new) }
+    ensures none { IsErrOf result stop.Absent → IsErrOf read stop.Absent }
+{
+    let (value, to) = read?;
+    values.push(value)?;
+    Ok(to)
+}
+
 impl<'n, 'a> Reader<'n, 'a> {
+    #[inline(always)]
     fn int_value(&self, at: usize) -> Result<(Value, usize), Stop>
         ensures found { IfOk result (λ r. spec.int_value self.now.text.now at ≡ Some (value_at r)) }
         ensures none { IsErrOf result stop.Absent → spec.int_value self.now.text.now at ≡ None }
@@ -53,28 +67,35 @@ impl<'n, 'a> Reader<'n, 'a> {
         }
     }
 
-    /// The value at a place that asks this type, if it asks one, with at most so many constructors inside each other.
+    /// Adds the value at a place that asks this type, if it asks one, with at most so many constructors inside each other.
+    /// What is read goes to its list at once, and isn't handed up.
     #[cycle(value)]
-    fn value(&self, asked: Option<Ty>, at: usize, depth: u32) -> Result<(Value, usize), Stop>
+    fn value(
+        &self,
+        asked: Option<Ty>,
+        at: usize,
+        depth: u32,
+        values: &mut List<Value>,
+    ) -> Result<usize, Stop>
         ensures found { IfOk result
-            (λ r. spec.value (prog self.now) self.now.text.now depth asked at ≡ Some (value_at r)) }
+            (Added (spec.value (prog self.now) self.now.text.now depth asked at) values.old values.new) }
         ensures none { IsErrOf result stop.Absent
             → spec.value (prog self.now) self.now.text.now depth asked at ≡ None }
     {
         if next_is(b'"', self.text, at) {
-            return self.string_value(at + 1);
+            return added(self.string_value(at + 1), values);
         }
         match name_end(self.text, at) {
-            None => self.int_value(at),
+            None => added(self.int_value(at), values),
             Some(to) => if next_is(b'#', self.text, to) {
-                self.atom(at, to)
+                added(self.atom(at, to), values)
             } else {
-                self.con(asked, at, to, depth)
+                self.con(asked, at, to, depth, values)
             },
         }
     }
 
-    /// The constructor with its arguments, whose name ends at `to`.
+    /// Adds the constructor with its arguments, whose name ends at `to`.
     #[cycle(value)]
     fn con(
         &self,
@@ -82,11 +103,12 @@ impl<'n, 'a> Reader<'n, 'a> {
         at: usize,
         to: usize,
         depth: u32,
-    ) -> Result<(Value, usize), Stop>
+        values: &mut List<Value>,
+    ) -> Result<usize, Stop>
         requires ordered { at ≤ to }
         requires within { to ≤ length self.now.text.now }
         ensures found { IfOk result
-            (λ r. spec.con_within (prog self.now) self.now.text.now depth asked at to ≡ Some (value_at r)) }
+            (Added (spec.con_within (prog self.now) self.now.text.now depth asked at to) values.old values.new) }
         ensures none { IsErrOf result stop.Absent
             → spec.con_within (prog self.now) self.now.text.now depth asked at to ≡ None }
     {
@@ -97,16 +119,15 @@ impl<'n, 'a> Reader<'n, 'a> {
             return Err(Stop::Absent);
         };
         if !next_is(b'(', self.text, to) {
-            return Ok((
-                Value::Con {
-                    con,
-                    args: List::new(self.alloc),
-                },
-                to,
-            ));
+            values.push(Value::Con {
+                con,
+                args: List::new(self.alloc),
+            })?;
+            return Ok(to);
         }
         let (args, end) = self.args(con_fields(self.names.program, con), to + 1, depth - 1)?;
-        Ok((Value::Con { con, args }, end))
+        values.push(Value::Con { con, args })?;
+        Ok(end)
     }
 
     /// The arguments of a constructor behind its opening parenthesis, at places that ask the types of its fields.
@@ -122,8 +143,7 @@ impl<'n, 'a> Reader<'n, 'a> {
         let mut args = List::new(self.alloc);
         let mut at = from;
         for i in 0..self.text.len() {
-            let (arg, to) = self.value(asked_at(fields, i), at, depth)?;
-            args.push(arg)?;
+            let to = self.value(asked_at(fields, i), at, depth, &mut args)?;
             if next_is(b')', self.text, to) {
                 return Ok((args, to + 1));
             }
@@ -135,15 +155,35 @@ impl<'n, 'a> Reader<'n, 'a> {
         Err(Stop::Absent)
     }
 
-    /// The value at a place that asks this type, if it asks one.
+    /// Adds the value at a place that asks this type, if it asks one.
     #[tactic(auto, unfolding(crate::specs::means::Reading::whole_value))]
+    pub(crate) fn add_value(
+        &self,
+        asked: Option<Ty>,
+        at: usize,
+        values: &mut List<Value>,
+    ) -> Result<usize, Stop>
+        ensures found { IfOk result
+            (Added (spec.whole_value (prog self.now) self.now.text.now asked at) values.old values.new) }
+        ensures none { IsErrOf result stop.Absent
+            → spec.whole_value (prog self.now) self.now.text.now asked at ≡ None }
+    {
+        self.value(asked, at, DEPTH, values)
+    }
+
+    /// The value at a place that asks this type, if it asks one.
     pub(crate) fn whole_value(&self, asked: Option<Ty>, at: usize) -> Result<(Value, usize), Stop>
         ensures found { IfOk result
             (λ r. spec.whole_value (prog self.now) self.now.text.now asked at ≡ Some (value_at r)) }
         ensures none { IsErrOf result stop.Absent
             → spec.whole_value (prog self.now) self.now.text.now asked at ≡ None }
     {
-        self.value(asked, at, DEPTH)
+        let mut values = List::new(self.alloc);
+        let to = self.add_value(asked, at, &mut values)?;
+        match values.pop() {
+            Some(value) => Ok((value, to)),
+            None => Err(Stop::Memory),
+        }
     }
 
     /// The longest constructor without arguments.

@@ -14,8 +14,8 @@ returns-then-not-next_is-clause-found c =
     let space : spec.next_is 32 text c.loop-i.at ≡ false = search rules in
     values_end p text tys (spec.values p text tys c.args.from) (length text) c.loop-i.i c.loop-i.at (map value_view c.loop-i.values) (omega arith) space c.loop-i.invariant
 
-pub returns-in_err-value-clause-none : goal.returns-in_err-value-clause-none
-returns-in_err-value-clause-none c = λ h.
+pub returns-in_err-at-clause-none : goal.returns-in_err-at-clause-none
+returns-in_err-at-clause-none c = λ h.
     let p = program_view c.args.self.now.names.now.program.now in
     let text = c.args.self.now.text.now in
     let tys = c.args.tys.now in
@@ -30,9 +30,10 @@ loop-i-preserved c =
     let text = c.args.self.now.text.now in
     let tys = c.args.tys.now in
     let space : spec.next_is 32 text c.loop-i.at ≡ true = search rules in
-    value_more p text tys (spec.values p text tys c.args.from) (length text) c.loop-i.i c.loop-i.at (map value_view c.loop-i.values) (value_view c.in_ok-value.value) c.in_ok-value.to (map value_view c.push.new.self) (omega arith) space
-    (subst (λ ty. spec.whole_value p text ty (c.loop-i.at + 1) ≡ Some (value_view c.in_ok-value.value, c.in_ok-value.to)) c.asked_at.ensures c.in_ok-value.ensures.found)
-    (pushed_map value_view c.loop-i.values c.push.new.self c.in_ok-value.value c.in_ok-push.ensures.ok) c.loop-i.invariant
+    let a = c.in_ok-at.ensures.found in
+    value_more p text tys (spec.values p text tys c.args.from) (length text) c.loop-i.i c.loop-i.at (map value_view c.loop-i.values) (value_view a.0) c.in_ok-at.at (map value_view c.add_value.new.values) (omega arith) space
+    (subst (λ ty. spec.whole_value p text ty (c.loop-i.at + 1) ≡ Some (value_view a.0, c.in_ok-at.at)) c.asked_at.ensures a.2)
+    (pushed_map value_view c.loop-i.values c.add_value.new.values a.0 a.1) c.loop-i.invariant
 
 pub returns-clause-found : goal.returns-clause-found
 returns-clause-found c =
