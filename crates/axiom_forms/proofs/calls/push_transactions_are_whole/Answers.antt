@@ -1,0 +1,5 @@
+use Rattle.axiom_forms.proofs.Chains.{behind}
+use Rattle.axiom_forms.proofs.calls.push_transactions_are_whole.Goals as goal
+
+pub returns : goal.returns
+returns c = behind _ _ _ _ _ c.in_ok-push_each.ensures c.in_ok-push_each-2.ensures

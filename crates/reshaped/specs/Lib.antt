@@ -1,0 +1,5 @@
+pub mod Clauses
+pub mod Fillings
+pub mod Occurring
+pub mod Shapes
+pub mod rows
