@@ -64,6 +64,7 @@ fn add_inside<'a>(
 
 /// Adds the points of the block and its end.
 #[cycle(places)]
+#[tactic(auto, using(rp_lang::proofs::StmtViews::stmt_views))]
 fn add_block<'a>(
     places: &mut List<Place<'a>>,
     stmts: &'a [Stmt],
@@ -74,34 +75,20 @@ fn add_block<'a>(
     ensures { OnOk result (map place_view places.new
         ≡ map place_view places.old ++ spec.block_places (stmts_view stmts.now) base (option_map spot_view behind.entry)) }
 {
-    add_stmts(places, stmts, base, size(stmts), behind)
-}
-
-/// The same of a block that has so many points.
-#[cycle(places)]
-fn add_stmts<'a>(
-    places: &mut List<Place<'a>>,
-    stmts: &'a [Stmt],
-    base: u64,
-    rest: u64,
-    behind: Option<Spot<'a>>,
-) -> Result<(), Memory>
-    requires room { base + points.size (stmts_view stmts.now) < 18446744073709551615 }
-    requires rest { rest ≡ points.size (stmts_view stmts.now) }
-    ensures { OnOk result (map place_view places.new
-        ≡ map place_view places.old ++ spec.block_places (stmts_view stmts.now) base (option_map spot_view behind.entry)) }
-{
-    match stmts.split_first() {
-        Some((first, others)) => {
-            let spot = Some(Spot::Before(base, first));
-            places.push(Place { spot, rest })?;
-            let points = inner(first);
-            let after = base + (points + 1);
-            add_inside(places, first, base + 1, first_spot(others, after, behind))?;
-            add_stmts(places, others, after, rest - (points + 1), behind)
-        }
-        None => places.push(Place { spot: behind, rest }),
+    let mut at = base;
+    let mut rest = size(stmts);
+    let mut left = stmts;
+    while let [first, others @ ..] = left {
+        let spot = Some(Spot::Before(at, first));
+        places.push(Place { spot, rest })?;
+        let points = inner(first) + 1;
+        let next = first_spot(others, at + points, behind);
+        add_inside(places, first, at + 1, next)?;
+        at += points;
+        rest -= points;
+        left = others;
     }
+    places.push(Place { spot: behind, rest })
 }
 
 /// What comes next at the first point of the block.
@@ -127,14 +114,13 @@ fn add_arms<'a>(
     ensures { OnOk result (map place_view places.new
         ≡ map place_view places.old ++ spec.arms_places (stmt_arms_view arms.now) base (option_map spot_view next.entry)) }
 {
-    match arms.split_first() {
-        Some((arm, others)) => {
-            let end = size(arm.body.as_slice());
-            add_block(places, arm.body.as_slice(), base, next)?;
-            add_arms(places, others, base + (end + 1), next)
-        }
-        None => Ok(()),
+    let mut at = base;
+    for arm in arms {
+        let end = size(arm.body.as_slice());
+        add_block(places, arm.body.as_slice(), at, next)?;
+        at += end + 1;
     }
+    Ok(())
 }
 
 /// The points of a procedure's body, from the first to its end. Takes memory for as many.
