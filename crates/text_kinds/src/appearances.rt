@@ -57,9 +57,10 @@ impl<'n, 'a> Seeker<'n, 'a> {
         ensures vars { IfOk result (λ seeker. seeker.vars ≡ []) }
         ensures kinds { IfOk result (λ seeker. kinds_view seeker.kinds ≡ numbered (names_view names.now) (bool_kind ∷ [])) }
     {
+        let kinds = KindTable::new(alloc, names)?;
         Ok(Seeker {
             vars: Vars::new(alloc),
-            kinds: KindTable::new(alloc, names)?,
+            kinds,
         })
     }
 
@@ -98,31 +99,22 @@ impl<'n, 'a> Seeker<'n, 'a> {
         self.vars.truncate(len);
     }
 
-    /// What the left side of a comparison is asked.
-    fn left_asked(
+    /// What the sides of a comparison are asked.
+    fn sides_asked(
         &self,
         op: CompareOp,
         left: &ExprNode,
         right: &ExprNode,
-    ) -> Result<Option<Kind>, Memory>
-        ensures { IfOk result (λ asked. asked ≡ (spec.left_want (names_view self.now.kinds.names.now) self.now.vars op
-            (tree.expr_view left.now) (tree.expr_view right.now)).asked) }
+    ) -> Result<(Option<Kind>, Option<Kind>), Memory>
+        ensures left { IfOk result (λ asked. asked.0 ≡ (spec.left_want (names_view self.now.kinds.names.now)
+            self.now.vars op (tree.expr_view left.now) (tree.expr_view right.now)).asked) }
+        ensures right { IfOk result (λ asked. asked.1 ≡ (spec.right_want (names_view self.now.kinds.names.now)
+            self.now.vars op (tree.expr_view left.now) (tree.expr_view right.now)).asked) }
     {
-        let want = left_want(self.kinds.names(), &self.vars, op, left, right)?;
-        Ok(want.asked)
-    }
-
-    fn right_asked(
-        &self,
-        op: CompareOp,
-        left: &ExprNode,
-        right: &ExprNode,
-    ) -> Result<Option<Kind>, Memory>
-        ensures { IfOk result (λ asked. asked ≡ (spec.right_want (names_view self.now.kinds.names.now) self.now.vars op
-            (tree.expr_view left.now) (tree.expr_view right.now)).asked) }
-    {
-        let want = right_want(self.kinds.names(), &self.vars, op, left, right)?;
-        Ok(want.asked)
+        let names = self.kinds.names();
+        let first = left_want(names, &self.vars, op, left, right)?;
+        let second = right_want(names, &self.vars, op, left, right)?;
+        Ok((first.asked, second.asked))
     }
 
     /// Adds what an expression brings whose place asks this type.
@@ -143,8 +135,7 @@ impl<'n, 'a> Seeker<'n, 'a> {
             ExprForm::Forall(param, body) => self.quantified(param.get(), body.get()),
             ExprForm::Exists(param, body) => self.quantified(param.get(), body.get()),
             ExprForm::Compare(op, left, right) => {
-                let first = self.left_asked(*op, left.get(), right.get())?;
-                let second = self.right_asked(*op, left.get(), right.get())?;
+                let (first, second) = self.sides_asked(*op, left.get(), right.get())?;
                 self.expr(first, left.get())?;
                 self.expr(second, right.get())
             }

@@ -5,7 +5,7 @@ ghost use Rattle.rp_ast.specs.View as tree;
 ghost use Rattle.text_names.specs.Declarations.{names_view};
 ghost use Rattle.type_rules.specs.Names.{types_in};
 ghost use Rattle.desugaring.specs.Appearances.{datatypes_of};
-ghost use Rattle.text_kinds.specs.Numbered.{numbered};
+ghost use Rattle.text_kinds.specs.Numbered.{numbered, with_kinds};
 ghost use Rattle.text_kinds.specs.Seen.{kinds_view};
 ghost use Rattle.text_kinds.specs.means.Brought as means;
 
@@ -31,6 +31,26 @@ fn type_count(decl: &DeclForm) -> u32
     }
 }
 
+impl<'n, 'a> Seeker<'n, 'a> {
+    /// Adds what the declarations of a text bring. Each begins with no variable in sight.
+    fn decls(&mut self, decls: &'a [Decl]) -> Result<(), Memory>
+        ensures { OnOk result (kinds_view self.new.kinds
+            ≡ with_kinds (means.decls_bring (names_view self.old.kinds.names.now) 0 (tree.decls_view decls.now))
+            (kinds_view self.old.kinds)) }
+    {
+        let mut types: u32 = 0;
+        for decl in decls {
+            self.leave(0);
+            self.decl(types, &decl.what)?;
+            let Some(more) = types.checked_add(type_count(&decl.what)) else {
+                return Err(Memory);
+            };
+            types = more;
+        }
+        Ok(())
+    }
+}
+
 /// The datatypes of a text with these names. `Err` is also a `Maybe` of a type that isn't known.
 pub fn datatypes_in<'n, 'a>(
     alloc: Global,
@@ -41,14 +61,6 @@ pub fn datatypes_in<'n, 'a>(
         (datatypes_of (names_view names.now) (tree.decls_view decls.now))) }
 {
     let mut seeker = Seeker::new(alloc, names)?;
-    let mut types: u32 = 0;
-    for decl in decls {
-        seeker.decl(types, &decl.what)?;
-        seeker.leave(0);
-        let Some(more) = types.checked_add(type_count(&decl.what)) else {
-            return Err(Memory);
-        };
-        types = more;
-    }
+    seeker.decls(decls)?;
     Ok(seeker.kinds)
 }

@@ -1,6 +1,6 @@
 //! The datatypes of a text by their numbers.
 
-ghost use Rattle.std.specs.Prelude.{◌≡◌, ◌<◌, ◌+◌, ◌++◌, ◌∷◌, [], IfOk, Some, flat_map, length, position, unwrap_or};
+ghost use Rattle.std.specs.Prelude.{◌≡◌, ◌<◌, ◌+◌, ◌++◌, ◌∷◌, [], ℕ, IfOk, None, Some, flat_map, length, position, unwrap_or};
 ghost use Rattle.std.specs.List.{position_from};
 ghost use Rattle.type_rules.specs.Kinds.{bool_kind};
 ghost use Rattle.type_rules.specs.Names.{Names, same_name};
@@ -44,8 +44,8 @@ pub(crate) fn place_of(base: Base) -> Option<usize>
 /// How many places there are besides those of declared types.
 const UNDECLARED: usize = 8;
 
-/// How many constructors a type has.
-pub(crate) fn con_count(names: &TextNames, kind: Kind) -> usize
+/// How many constructors a type has; none where it isn't a datatype.
+pub fn con_count(names: &TextNames, kind: Kind) -> usize
     ensures { result ≡ length (cons_of (names_view names.now) kind) }
 {
     match cases_of(names, kind) {
@@ -132,17 +132,38 @@ fn sum_below(first: u32, place: u32, _end: u32) -> u32
     first + place
 }
 
+/// So many places without a number.
+#[tactic(auto, using(crate::proofs::RowsKept::own_none))]
+fn no_numbers(alloc: Global, places: usize) -> Result<Vec<Option<Numbers>>, Memory>
+    ensures { IfOk result (λ own. (place : ℕ) → rows.own_at own.items place ≡ None) }
+{
+    let mut own = Vec::new(alloc);
+    for _place in 0..places {
+        own.push(None)?;
+    }
+    Ok(own)
+}
+
+/// So many empty rows.
+#[tactic(auto, using(crate::proofs::RowsKept::maybes_none))]
+fn no_rows(alloc: Global, places: usize) -> Result<Vec<List<Numbers>>, Memory>
+    ensures { IfOk result (λ maybes. (place many : ℕ) → rows.maybe_at maybes.items place many ≡ None) }
+{
+    let mut maybes = Vec::new(alloc);
+    for _place in 0..places {
+        maybes.push(List::new(alloc))?;
+    }
+    Ok(maybes)
+}
+
 impl<'n, 'a> KindTable<'n, 'a> {
     /// `Bool` alone, which is datatype 0.
     pub fn new(alloc: Global, names: &'n TextNames<'a>) -> Result<KindTable<'n, 'a>, Memory>
         ensures { IfOk result (λ table. kinds_view table ≡ numbered (names_view names.now) (bool_kind ∷ [])) }
     {
-        let mut own = Vec::new(alloc);
-        let mut maybes = Vec::new(alloc);
-        for _place in 0..UNDECLARED + names.type_count() as usize {
-            own.push(None)?;
-            maybes.push(List::new(alloc))?;
-        }
+        let places = UNDECLARED + names.type_count() as usize;
+        let own = no_numbers(alloc, places)?;
+        let maybes = no_rows(alloc, places)?;
         let mut table = KindTable {
             names,
             kinds: List::new(alloc),

@@ -11,4 +11,5 @@ mod statements;
 mod table;
 
 pub use datatypes::datatypes_in;
+pub use kinds::con_count;
 pub use table::KindTable;

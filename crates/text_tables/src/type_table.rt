@@ -11,21 +11,9 @@ use crate::objects::sum;
 use crate::tables::Tables;
 use rp_value::{Bytes, DataDecl, List, Memory, TypeTable};
 use std::alloc::Global;
+use text_kinds::con_count;
 use text_names::TextNames;
 use type_rules::{Base, Kind};
-use type_terms::{Cases, cases_of};
-
-/// How many constructors a type has.
-fn con_count(names: &TextNames, kind: &Kind) -> usize
-    ensures { result ≡ length (spec.cons_of (names_view names.now) kind.now) }
-{
-    match cases_of(names, *kind) {
-        Some(Cases::Bool) => 2,
-        Some(Cases::Maybe(_)) => 2,
-        Some(Cases::Declared(cons)) => cons.as_slice().len(),
-        None => 0,
-    }
-}
 
 /// The number behind so many from one on.
 fn behind(next: u32, many: usize) -> Result<u32, Memory>
@@ -118,7 +106,7 @@ fn datatypes(alloc: Global, names: &TextNames, kinds: &[Kind]) -> Result<List<Da
     let mut decls = List::new(alloc);
     let mut next: u32 = 0;
     for kind in kinds {
-        let end = behind(next, con_count(names, kind))?;
+        let end = behind(next, con_count(names, *kind))?;
         let decl = data_decl(alloc, names, kind, next, end)?;
         decls.push(decl)?;
         next = end;

@@ -1,56 +1,20 @@
-use Rattle.std.proofs.Common.{◌≡◌, ◌+◌, ◌++◌, List, [], ◌∷◌, drop, sym, ap, ◌∙◌}
-use Rattle.rp_ast.specs.declared.decl.Decl.{Decl}
-use Rattle.rp_ast.specs.View.{decl_form_view, decls_view}
+use Rattle.std.proofs.Common.{List, ◌∷◌, sym, ap, ◌∙◌}
+use Rattle.rp_ast.specs.View.{decls_view}
 use Rattle.type_rules.specs.declared.kind.Kind.{Kind}
-use Rattle.type_rules.specs.Names.{Names}
 use Rattle.type_rules.specs.Kinds.{bool_kind}
 use Rattle.desugaring.specs.Appearances.{each_once}
 use Rattle.text_names.specs.Declarations.{names_view}
-use Rattle.text_names.proofs.Entries.{drop_past}
 use Rattle.text_kinds.specs.Numbered.{Numbered, numbered, with_kinds}
-use Rattle.text_kinds.specs.Seen.{kinds_view}
-use Rattle.text_kinds.specs.means.Brought as means
-use Rattle.text_kinds.specs.means.Brought.{Seen, decl_brings, decls_bring}
+use Rattle.text_kinds.specs.means.Brought.{decls_bring}
 use Rattle.text_kinds.proofs.BroughtLaw.{from_law}
 use Rattle.text_kinds.proofs.EachOnce.{each_first}
-use Rattle.text_kinds.proofs.Walks.{kinds_on, rest_is}
 use Rattle.text_kinds.proofs.datatypes.datatypes_in.Goals as goal
-
-pub loop-decl-preserved : goal.loop-decl-preserved
-loop-decl-preserved c =
-    let n = names_view c.args.names.now in
-    let start = numbered n (bool_kind ∷ []) in
-    let old = kinds_view c.loop-decl.seeker.kinds in
-    let new = kinds_view c.leave.new.self.kinds in
-    let decls = c.args.decls.now in
-    let i = c.loop-decl.decl-index in
-    let x = c.decl-item.result in
-    let types = c.loop-decl.types in
-    let form = decl_form_view x.what in
-    let before = c.loop-decl.invariant in
-    let f : Names → List Kind = λ m. decl_brings m types form in
-    let left : new ≡ kinds_view c.decl.new.self.kinds = ap (λ (s : Seen). s.kinds) c.leave.ensures in
-    let one : new ≡ with_kinds (f old.names) old = left ∙ c.in_ok-decl.ensures before.none in
-    let more : c.in-Some.more ≡ types + means.type_count form = c.in-Some.ensures.1 ∙ ap (λ k. types + k) c.type_count.ensures in
-    record {
-      none = ap (λ (s : Seen). s.vars) c.leave.ensures;
-      names = ap (λ (t : Numbered). t.names) one ∙ before.names;
-      comes = kinds_on start old new (decls_bring n types (decls_view (drop i decls)))
-          (decls_bring n c.in-Some.more (decls_view (drop (i + 1) decls)))
-          (decls_bring n 0 (decls_view decls)) f before.names before.comes
-          (ap (λ (xs : List Decl). decls_bring n types (decls_view xs)) (rest_is decls i x c.loop-decl-test.true c.decl-item.is)
-          ∙ ap (λ k. f n ++ decls_bring n k (decls_view (drop (i + 1) decls))) (sym more))
-          one;
-    }
 
 pub returns : goal.returns
 returns c =
     let n = names_view c.args.names.now in
     let ds = decls_view c.args.decls.now in
-    let left = c.loop-decl.invariant in
-    let end = kinds_view c.loop-decl.seeker.kinds in
-    ap (λ (xs : List Decl). with_kinds (decls_bring n c.loop-decl.types (decls_view xs)) end)
-    (sym (drop_past c.args.decls.now c.loop-decl.decl-index c.loop-decl-test.false))
-    ∙ left.comes
+    c.in_ok-decls.ensures
+    ∙ ap (λ (t : Numbered). with_kinds (decls_bring t.names 0 ds) t) c.in_ok-seeker.ensures.kinds
     ∙ ap (numbered n) (each_first bool_kind (decls_bring n 0 ds) ∙ ap (λ (ks : List Kind). each_once (bool_kind ∷ ks))
     (sym (from_law n 0 0 ds)))

@@ -1,4 +1,4 @@
-use Rattle.std.proofs.Common.{◌≡◌, ◌+◌, ◌++◌, List, [], ◌∷◌, None, Some, drop, refl, take, ap, ap₂, sym, ◌∙◌}
+use Rattle.std.proofs.Common.{◌≡◌, ◌+◌, ◌++◌, List, [], ◌∷◌, None, Some, drop, refl, subst, take, ap, ap₂, sym, ◌∙◌}
 use Rattle.rp_ast.specs.declared.expr.AccessStep.{AccessStep}
 use Rattle.rp_ast.specs.declared.expr.AccessStep.TheViews.{out-AccessNode}
 use Rattle.rp_ast.specs.View as tree
@@ -14,7 +14,7 @@ use Rattle.type_rules.specs.Typing.{asked_inside, form_type, type_of}
 use Rattle.desugaring.specs.Appearances.{parts}
 use Rattle.type_terms.specs.Views.{access_view, way_view}
 use Rattle.text_kinds.specs.Seen.{kinds_view}
-use Rattle.text_kinds.specs.means.Brought.{Seen, access_brings, args_bring, behind_pattern, form_brings, key_brings, steps_bring}
+use Rattle.text_kinds.specs.means.Brought.{Seen, access_brings, args_bring, behind_pattern, key_brings, steps_bring}
 use Rattle.text_kinds.proofs.Bare.{bound_more}
 use Rattle.text_kinds.proofs.Walks.{both_as, form_seen, goes_on, left_sought, other_dropped, rest_is, sought_both}
 use Rattle.rp_ast.specs.declared.expr.ExprNode.{ExprNode}
@@ -108,10 +108,10 @@ expr-returns-in_ok-expr-in-Implies t c =
     on_ok c.expr-in-Implies.result
     (λ e. both_as start mid (seen c.expr-in-Implies.new.self)
     (λ m vs. expr_brings m vs (Some bool_kind) (expr_view l)) (λ m vs. expr_brings m vs (Some bool_kind) (expr_view r)) _
-    (c.in_ok-expr-in-Implies.ensures ∙ ap (λ (x : ExprNode). sought start
-    (expr_brings start.kinds.names start.vars (Some bool_kind) (expr_view x))) c.get.ensures)
-    (e ∙ ap (λ (x : ExprNode). sought mid (expr_brings mid.kinds.names mid.vars (Some bool_kind) (expr_view x)))
-    c.get-in-Implies.ensures)
+    (subst (λ (x : ExprNode). mid ≡ sought start (expr_brings start.kinds.names start.vars (Some bool_kind) (expr_view x)))
+    c.get.ensures c.in_ok-expr-in-Implies.ensures)
+    (subst (λ (x : ExprNode). seen c.expr-in-Implies.new.self
+    ≡ sought mid (expr_brings mid.kinds.names mid.vars (Some bool_kind) (expr_view x))) c.get-in-Implies.ensures e)
     (form_seen start.kinds.names start.vars c.args.asked c.args.e.now _
     (ap expr_form_view c.in-Implies.is ∙ expr_form_view-Implies l r)))
     c.expr-in-Implies.ensures
@@ -125,10 +125,10 @@ expr-returns-in_ok-expr-in-Plus t c =
     on_ok c.expr-in-Plus-2.result
     (λ e. both_as start mid (seen c.expr-in-Plus-2.new.self)
     (λ m vs. expr_brings m vs (Some int_kind) (expr_view l)) (λ m vs. expr_brings m vs (Some int_kind) (expr_view r)) _
-    (c.in_ok-expr-in-Plus.ensures ∙ ap (λ (x : ExprNode). sought start
-    (expr_brings start.kinds.names start.vars (Some int_kind) (expr_view x))) c.get-in-Plus.ensures)
-    (e ∙ ap (λ (x : ExprNode). sought mid (expr_brings mid.kinds.names mid.vars (Some int_kind) (expr_view x)))
-    c.get-in-Plus-2.ensures)
+    (subst (λ (x : ExprNode). mid ≡ sought start (expr_brings start.kinds.names start.vars (Some int_kind) (expr_view x)))
+    c.get-in-Plus.ensures c.in_ok-expr-in-Plus.ensures)
+    (subst (λ (x : ExprNode). seen c.expr-in-Plus-2.new.self
+    ≡ sought mid (expr_brings mid.kinds.names mid.vars (Some int_kind) (expr_view x))) c.get-in-Plus-2.ensures e)
     (form_seen start.kinds.names start.vars c.args.asked c.args.e.now _
     (ap expr_form_view c.in-Plus.is ∙ expr_form_view-Plus l r)))
     c.expr-in-Plus-2.ensures
@@ -142,10 +142,10 @@ expr-returns-in_ok-expr-in-Minus t c =
     on_ok c.expr-in-Minus-2.result
     (λ e. both_as start mid (seen c.expr-in-Minus-2.new.self)
     (λ m vs. expr_brings m vs (Some int_kind) (expr_view l)) (λ m vs. expr_brings m vs (Some int_kind) (expr_view r)) _
-    (c.in_ok-expr-in-Minus.ensures ∙ ap (λ (x : ExprNode). sought start
-    (expr_brings start.kinds.names start.vars (Some int_kind) (expr_view x))) c.get-in-Minus.ensures)
-    (e ∙ ap (λ (x : ExprNode). sought mid (expr_brings mid.kinds.names mid.vars (Some int_kind) (expr_view x)))
-    c.get-in-Minus-2.ensures)
+    (subst (λ (x : ExprNode). mid ≡ sought start (expr_brings start.kinds.names start.vars (Some int_kind) (expr_view x)))
+    c.get-in-Minus.ensures c.in_ok-expr-in-Minus.ensures)
+    (subst (λ (x : ExprNode). seen c.expr-in-Minus-2.new.self
+    ≡ sought mid (expr_brings mid.kinds.names mid.vars (Some int_kind) (expr_view x))) c.get-in-Minus-2.ensures e)
     (form_seen start.kinds.names start.vars c.args.asked c.args.e.now _
     (ap expr_form_view c.in-Minus.is ∙ expr_form_view-Minus l r)))
     c.expr-in-Minus-2.ensures
@@ -170,8 +170,8 @@ word-loop-place-preserved t c =
     ∙ ap (λ js. f n start.vars ++ args_bring n start.vars js (exprs_view (drop (i + 1) args))) (other_dropped ks i))
     (c.in_ok-expr.ensures ∙ ap (λ k. sought (seen old) (expr_brings (names_view old.kinds.names.now) old.vars (Some k)
     (expr_view x)))
-    (c.in_ok-kind.ensures ∙ ap (λ m. first_kind (drop i (word_args m old.vars c.args.word (exprs_view args))))
-    (ap names_view c.names.ensures)))
+    (subst (λ m. c.in_ok-kind.kind ≡ first_kind (drop i (word_args m old.vars c.args.word (exprs_view args))))
+    (ap names_view c.names.ensures) c.in_ok-kind.ensures))
 
 pub expr-returns-in-Forall : goal.expr-returns-in-Forall
 expr-returns-in-Forall t c =
@@ -212,22 +212,22 @@ expr-returns-in_ok-expr-in-Compare t c =
     let op = c.in-Compare.op in
     let l = c.in-Compare.left in
     let r = c.in-Compare.right in
-    let first : c.in_ok-first-in-Compare.first ≡ (left_want n vs op (expr_view l) (expr_view r)).asked =
-    c.in_ok-first-in-Compare.ensures
+    let asked = c.in_ok-first-in-Compare in
+    let first : asked.first ≡ (left_want n vs op (expr_view l) (expr_view r)).asked =
+    asked.ensures.left
     ∙ ap₂ (λ (x y : ExprNode). (left_want n vs op (expr_view x) (expr_view y)).asked) c.get-in-Compare.ensures
     c.get-in-Compare-2.ensures in
-    let second : c.in_ok-second-in-Compare.second ≡ (right_want n vs op (expr_view l) (expr_view r)).asked =
-    c.in_ok-second-in-Compare.ensures
-    ∙ ap₂ (λ (x y : ExprNode). (right_want n vs op (expr_view x) (expr_view y)).asked) c.get-in-Compare-3.ensures
-    c.get-in-Compare-4.ensures in
+    let second : asked.second ≡ (right_want n vs op (expr_view l) (expr_view r)).asked =
+    asked.ensures.right
+    ∙ ap₂ (λ (x y : ExprNode). (right_want n vs op (expr_view x) (expr_view y)).asked) c.get-in-Compare.ensures
+    c.get-in-Compare-2.ensures in
     on_ok c.expr-in-Compare-2.result
     (λ e. both_as start mid (seen c.expr-in-Compare-2.new.self)
-    (λ m ws. expr_brings m ws c.in_ok-first-in-Compare.first (expr_view l))
-    (λ m ws. expr_brings m ws c.in_ok-second-in-Compare.second (expr_view r)) _
-    (c.in_ok-expr-in-Compare.ensures ∙ ap (λ (x : ExprNode). sought start
-    (expr_brings n vs c.in_ok-first-in-Compare.first (expr_view x))) c.get-in-Compare-5.ensures)
-    (e ∙ ap (λ (x : ExprNode). sought mid (expr_brings mid.kinds.names mid.vars c.in_ok-second-in-Compare.second (expr_view x)))
-    c.get-in-Compare-6.ensures)
+    (λ m ws. expr_brings m ws asked.first (expr_view l)) (λ m ws. expr_brings m ws asked.second (expr_view r)) _
+    (subst (λ (x : ExprNode). mid ≡ sought start (expr_brings n vs asked.first (expr_view x))) c.get-in-Compare-3.ensures
+    c.in_ok-expr-in-Compare.ensures)
+    (subst (λ (x : ExprNode). seen c.expr-in-Compare-2.new.self
+    ≡ sought mid (expr_brings mid.kinds.names mid.vars asked.second (expr_view x))) c.get-in-Compare-4.ensures e)
     (form_seen n vs c.args.asked c.args.e.now _
     (ap expr_form_view c.in-Compare.is ∙ expr_form_view-Compare op l r)
     ∙ sym (ap₂ (λ a b. expr_brings n vs a (expr_view l) ++ expr_brings n vs b (expr_view r)) first second)))
@@ -267,10 +267,10 @@ expr-returns-in_ok-expr-in-Match t c =
     (λ e. both_as start mid (seen c.arms.new.self)
     (λ m ws. expr_brings m ws None (expr_view term))
     (λ m ws. arms_bring m ws c.in_ok-kind-in-Match.kind (expr_arms_view c.in-Match.arms)) _
-    (c.in_ok-expr-in-Match.ensures ∙ ap (λ (x : ExprNode). sought start (expr_brings n vs None (expr_view x)))
-    c.get-in-Match-2.ensures)
-    (e ∙ ap (λ (xs : List ExprArm). sought mid (arms_bring mid.kinds.names mid.vars c.in_ok-kind-in-Match.kind
-    (expr_arms_view xs))) c.as_slice-in-Match.ensures.items)
+    (subst (λ (x : ExprNode). mid ≡ sought start (expr_brings n vs None (expr_view x))) c.get-in-Match-2.ensures
+    c.in_ok-expr-in-Match.ensures)
+    (subst (λ (xs : List ExprArm). seen c.arms.new.self ≡ sought mid (arms_bring mid.kinds.names mid.vars
+    c.in_ok-kind-in-Match.kind (expr_arms_view xs))) c.as_slice-in-Match.ensures.items e)
     (form_seen n vs c.args.asked c.args.e.now _
     (ap expr_form_view c.in-Match.is ∙ expr_form_view-Match term c.in-Match.arms)
     ∙ ap (λ k. expr_brings n vs None (expr_view term) ++ arms_bring n vs k (expr_arms_view c.in-Match.arms)) (sym kind)))
@@ -347,10 +347,10 @@ access-returns-in-Some t c =
     on_ok c.args-in-Some.result
     (λ e. both_as start mid (seen c.args-in-Some.new.self)
     (λ m ws. steps_bring m ws (way_view m way) steps) (λ m ws. args_bring m ws (args_of m (access_view m what)) args) _
-    (c.in_ok-keys.ensures ∙ ap (λ (xs : List AccessStep). sought start (steps_bring n vs (way_view n way) (steps_view xs)))
-    c.as_slice.ensures.items)
-    (e ∙ ap (λ (xs : List ExprNode). sought mid (args_bring mid.kinds.names mid.vars
-    (args_of mid.kinds.names (access_view mid.kinds.names what)) (exprs_view xs))) c.as_slice-in-Some.ensures.items)
+    (subst (λ (xs : List AccessStep). mid ≡ sought start (steps_bring n vs (way_view n way) (steps_view xs)))
+    c.as_slice.ensures.items c.in_ok-keys.ensures)
+    (subst (λ (xs : List ExprNode). seen c.args-in-Some.new.self ≡ sought mid (args_bring mid.kinds.names mid.vars
+    (args_of mid.kinds.names (access_view mid.kinds.names what)) (exprs_view xs))) c.as_slice-in-Some.ensures.items e)
     (ap (access_brings n vs) view
     ∙ ap₂ (λ w a. steps_bring n vs w steps ++ args_bring n vs (args_of n a) args) (sym begun) (sym named)))
     c.args-in-Some.ensures
