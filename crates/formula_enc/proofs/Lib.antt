@@ -1,0 +1,4 @@
+pub mod Arms
+pub mod BoundsViews
+pub mod SignLaws
+pub mod TermLists

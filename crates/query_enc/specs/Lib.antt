@@ -1,0 +1,3 @@
+pub mod means
+pub mod TestView
+pub mod WayView
