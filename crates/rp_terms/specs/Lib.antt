@@ -1,0 +1,3 @@
+pub mod Numbered
+pub mod Symbols
+pub mod means
