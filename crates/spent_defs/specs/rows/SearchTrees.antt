@@ -46,19 +46,25 @@ plain consts fns = record {
 abbrev pub a_function : List FnDecl
 a_function = record { args = 0 ∷ []; result = 0 } ∷ []
 
-abbrev pub c d : Tm
+abbrev pub c : Tm
 c = Const 0
+
+abbrev pub d : Tm
 d = Const 1
 
 abbrev pub f : Tm → Tm
 f t = Fn 0 (also_tm t no_tm)
 
-abbrev pub r_of q_of : Tm → At
+abbrev pub r_of : Tm → At
 r_of t = Rel 0 (also_tm t no_tm)
+
+abbrev pub q_of : Tm → At
 q_of t = Rel 1 (also_tm t no_tm)
 
-abbrev pub yes nay : At → Fm
+abbrev pub yes : At → Fm
 yes a = Lit true a
+
+abbrev pub nay : At → Fm
 nay a = Lit false a
 
 abbrev pub two : Fm → Fm → Fms
