@@ -1,5 +1,5 @@
 -- The atoms of a quantifier's body, and its variable in them.
-use Rattle.std.specs.Prelude.{ℕ, zero, suc, Bool, false, ◌||◌, ◌==◌}
+use Rattle.std.specs.Prelude.{ℕ, suc, Bool, false, ◌||◌, ◌==◌}
 use Rattle.rp_logic.specs.Terms.{Tm, Var, Const, Fn, Int, Str, Con, Sel, Plus, Tms, no_tm, also_tm, At}
 use Rattle.rp_logic.specs.Formulas.{Fm, And, Or, All, Ex, Lit, Fms, no_fm, also_fm}
 use Rattle.refute_defs.specs.Parts.{atom_args}

@@ -1,5 +1,5 @@
 -- Branches that are complete to a depth: all that their formulas up to that rank ask for is there.
-use Rattle.std.specs.Prelude.{ℕ, Bool, true, false, not, ◌&&◌, ◌||◌, nat_le, List, []}
+use Rattle.std.specs.Prelude.{ℕ, Bool, true, false, not, ◌&&◌, ◌||◌, nat_le, []}
 use Rattle.std.specs.List.{list_all, list_any}
 use Rattle.rp_logic.specs.Terms.{Tm, Const}
 use Rattle.rp_logic.specs.Formulas.{Fm, And, Or, All, Ex, Lit, Fms, no_fm, also_fm}

@@ -1,9 +1,9 @@
 -- What the nodes of a counted tree keep, beside their rules.
-use Rattle.std.specs.Prelude.{ℕ, suc, pos, negsuc, Bool, true, false, not, ◌&&◌, ◌||◌, ◌==◌, nat_le, nat_lt, List, [], ◌∷◌, length, map, Option, Some, None}
+use Rattle.std.specs.Prelude.{ℕ, suc, pos, negsuc, Bool, true, false, not, ◌&&◌, ◌||◌, ◌==◌, nat_le, nat_lt, List, [], ◌∷◌, length, Option, Some}
 use Rattle.std.specs.List.{list_all, list_any, range_with_len}
 use Rattle.std.specs.Ordering.{int_eq}
-use Rattle.rp_logic.specs.Terms.{Tm, Const, Con, At, Equal, Le, Rel}
-use Rattle.rp_logic.specs.Formulas.{Fm, And, Or, All, Ex, Lit, Fms}
+use Rattle.rp_logic.specs.Terms.{Tm, Const, Con, At, Equal, Le}
+use Rattle.rp_logic.specs.Formulas.{Fm, And, All, Ex, Lit}
 use Rattle.rp_logic.specs.Signatures.{Signature}
 use Rattle.refute_defs.specs.Uses.{Use}
 use Rattle.refute_defs.specs.Additions.{Addition}

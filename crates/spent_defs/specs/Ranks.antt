@@ -1,6 +1,6 @@
 -- Ranks: through how many instances a formula or a term of a branch came about.
-use Rattle.std.specs.Prelude.{ℕ, suc, max, Bool, ◌==◌, if◌then◌else◌, List, [], ◌∷◌, ◌++◌, map, get_or, replicate, length, zip, flat_map}
-use Rattle.rp_logic.specs.Terms.{Tm, Tms, no_tm, also_tm, At}
+use Rattle.std.specs.Prelude.{ℕ, suc, max, ◌==◌, if◌then◌else◌, List, [], ◌∷◌, ◌++◌, map, get_or, replicate, length, zip, flat_map}
+use Rattle.rp_logic.specs.Terms.{Tm, Tms, no_tm, also_tm}
 use Rattle.rp_logic.specs.Formulas.{Fm}
 use Rattle.refute_defs.specs.Uses.{Use}
 use Rattle.refute_defs.specs.Parts.{atom_args}

@@ -1,7 +1,7 @@
 -- Closed terms that stand in formulas: also inside other terms, and under quantifiers.
 use Rattle.std.specs.Prelude.{Bool, if◌then◌else◌, List, [], ◌∷◌, ◌++◌, flat_map}
 use Rattle.std.specs.List.{list_any}
-use Rattle.rp_logic.specs.Terms.{Tm, Var, Const, Fn, Int, Str, Con, Sel, Plus, Tms, no_tm, also_tm, is_closed, At}
+use Rattle.rp_logic.specs.Terms.{Tm, Var, Const, Fn, Int, Str, Con, Sel, Plus, Tms, no_tm, also_tm, is_closed}
 use Rattle.rp_logic.specs.Formulas.{Fm, And, Or, All, Ex, Lit, Fms, no_fm, also_fm}
 use Rattle.refute_defs.specs.Branches.{Branch}
 use Rattle.refute_defs.specs.Parts.{atom_args}

@@ -1,5 +1,5 @@
 -- The nodes of a tree in preorder, each with the branch at which it stands.
-use Rattle.std.specs.Prelude.{ℕ, suc, List, [], ◌∷◌, ◌++◌, map, Option, Some, None}
+use Rattle.std.specs.Prelude.{ℕ, suc, List, [], ◌∷◌, ◌++◌, map, Some, None}
 use Rattle.rp_logic.specs.Formulas.{Fm}
 use Rattle.rp_logic.specs.Signatures.{Signature}
 use Rattle.refute_defs.specs.Uses.{Use, Nd, Rule, Unvisited, Current}

@@ -1,11 +1,11 @@
 -- Worked rows: trees that a search leaves, and what is said of them.
-use Rattle.std.specs.Prelude.{ℕ, ℤ, Bool, true, false, List, [], ◌∷◌, ◌++◌, replicate}
+use Rattle.std.specs.Prelude.{ℕ, ℤ, true, false, List, [], ◌∷◌}
 use Rattle.rp_logic.specs.declared.sort.Sort.TheVariants as sort
 use Rattle.rp_logic.specs.declared.sort.FnDecl.{FnDecl}
-use Rattle.rp_logic.specs.Terms.{Tm, Var, Const, Fn, Con, no_tm, also_tm, At, Equal, Le, Rel}
+use Rattle.rp_logic.specs.Terms.{Tm, Var, Const, Fn, no_tm, also_tm, At, Equal, Le, Rel}
 use Rattle.rp_logic.specs.Formulas.{Fm, And, Or, All, Ex, Lit, Fms, no_fm, also_fm}
 use Rattle.rp_logic.specs.Signatures.{Signature}
-use Rattle.refute_defs.specs.Uses.{Use, Nd, Rule, Unvisited, Current}
+use Rattle.refute_defs.specs.Uses.{Nd, Rule, Unvisited, Current}
 use Rattle.refute_defs.specs.Verdicts.{Verdict}
 use Rattle.spent_defs.specs.Counted.{counted_verdict}
 
