@@ -1,0 +1,10 @@
+pub mod Atoms
+pub mod Complete
+pub mod Conditions
+pub mod Counted
+pub mod Matching
+pub mod Ranks
+pub mod SameFormulas
+pub mod Standing
+pub mod Tours
+pub mod rows

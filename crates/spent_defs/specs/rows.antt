@@ -1,0 +1,2 @@
+-- Samples and worked rows.
+pub mod SearchTrees
