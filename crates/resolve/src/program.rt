@@ -29,7 +29,7 @@ use rp_value::{ConTable, Memory};
 use std::alloc::Global;
 use text_names::{Roots, TextNames};
 use text_tables::{Members, Tables, members_of, roots_of};
-use type_faults::first_fault;
+use type_faults::fault_with;
 use type_terms::names_of;
 
 /// Why a text is no program.
@@ -175,33 +175,55 @@ fn program_of_names<'a>(
     program_by(alloc, &tables, decls)
 }
 
-/// The program of a lawful text with these roots.
-fn program_of_roots<'r, 'a>(
+/// The program of a lawful text that has these names, by its tree.
+fn lawful_program<'a>(
+    alloc: Global,
+    names: &TextNames<'a>,
+    ast: &'a Ast,
+) -> Result<Program, TypeErr>
+    requires text { (bytes : Items ℕ) × IsText bytes (ast_view ast.now) }
+    requires lawful { IsLawful (ast_view ast.now) }
+    requires names { names_view names.now ≡ rules.names_of (ast_view ast.now) }
+    ensures program { IfOk result (λ p. HasProgram (ast_view ast.now) (program_view p)) }
+    ensures limit { (l : SpecLimit) → IsErrOf result (err.Limit l) → PassesLimit (ast_view ast.now) l }
+    ensures no_rule { (rule : ℕ) (span : SpecSpan) → IsErrOf result (err.Rule rule span) → ⊥ }
+{
+    program_of_names(alloc, names, ast.decls.as_slice())
+}
+
+/// Which program a text is that has these names.
+fn with_names<'a>(alloc: Global, names: &TextNames<'a>, ast: &'a Ast) -> Result<Program, TypeErr>
+    requires text { (bytes : Items ℕ) × IsText bytes (ast_view ast.now) }
+    requires names { names_view names.now ≡ rules.names_of (ast_view ast.now) }
+    ensures program { IfOk result (λ p. HasProgram (ast_view ast.now) (program_view p)) }
+    ensures rule { (rule : ℕ) (span : SpecSpan) → IsErrOf result (err.Rule rule span)
+        → IsFirstFault (ast_view ast.now) (Some (record { rule = rule; span = span })) }
+    ensures limit { (l : SpecLimit) → IsErrOf result (err.Limit l) → PassesLimit (ast_view ast.now) l }
+{
+    match fault_with(alloc, names, ast)? {
+        Some(fault) => Err(TypeErr::Rule {
+            rule: fault.rule,
+            span: fault.span,
+        }),
+        None => lawful_program(alloc, names, ast),
+    }
+}
+
+/// Which program a text is that has these roots.
+fn with_roots<'r, 'a>(
     alloc: Global,
     roots: &'r Roots<'a>,
     ast: &'r Ast,
 ) -> Result<Program, TypeErr>
     requires text { (bytes : Items ℕ) × IsText bytes (ast_view ast.now) }
-    requires lawful { IsLawful (ast_view ast.now) }
     requires roots { roots_seen (trees_of roots.now.parts.items) roots.now.places ≡ map crdt_in (ast_view ast.now) }
     ensures program { IfOk result (λ p. HasProgram (ast_view ast.now) (program_view p)) }
+    ensures rule { (rule : ℕ) (span : SpecSpan) → IsErrOf result (err.Rule rule span)
+        → IsFirstFault (ast_view ast.now) (Some (record { rule = rule; span = span })) }
     ensures limit { (l : SpecLimit) → IsErrOf result (err.Limit l) → PassesLimit (ast_view ast.now) l }
-    ensures no_rule { (rule : ℕ) (span : SpecSpan) → IsErrOf result (err.Rule rule span) → ⊥ }
 {
     let names = names_of(alloc, &*roots, ast)?;
-    program_of_names(alloc, &names, ast.decls.as_slice())
-}
-
-/// The program of a lawful text.
-fn lawful_program(alloc: Global, ast: &Ast) -> Result<Program, TypeErr>
-    requires text { (bytes : Items ℕ) × IsText bytes (ast_view ast.now) }
-    requires lawful { IsLawful (ast_view ast.now) }
-    ensures program { IfOk result (λ p. HasProgram (ast_view ast.now) (program_view p)) }
-    ensures limit { (l : SpecLimit) → IsErrOf result (err.Limit l) → PassesLimit (ast_view ast.now) l }
-    ensures no_rule { (rule : ℕ) (span : SpecSpan) → IsErrOf result (err.Rule rule span) → ⊥ }
-{
-    let roots = Roots::of(alloc, ast.decls.as_slice())?;
-    program_of_roots(alloc, &roots, &*ast)
+    with_names(alloc, &names, ast)
 }
 
 /// Which program a text is. `Rule` is the first broken type rule, `Limit` the first limit that the
@@ -213,11 +235,6 @@ pub fn resolve(alloc: Global, ast: &Ast) -> Result<Program, TypeErr>
         → IsFirstFault (ast_view ast.now) (Some (record { rule = rule; span = span })) }
     ensures limit { (l : SpecLimit) → IsErrOf result (err.Limit l) → PassesLimit (ast_view ast.now) l }
 {
-    match first_fault(alloc, ast)? {
-        Some(fault) => Err(TypeErr::Rule {
-            rule: fault.rule,
-            span: fault.span,
-        }),
-        None => lawful_program(alloc, ast),
-    }
+    let roots = Roots::of(alloc, ast.decls.as_slice())?;
+    with_roots(alloc, &roots, &*ast)
 }

@@ -7,4 +7,5 @@ pub mod Lists
 pub mod Meeting
 pub mod Named
 pub mod Plain
+pub mod RightLaws
 pub mod Walked

@@ -1,3 +1,4 @@
 pub mod Walks
 pub mod Flows
 pub mod Texts
+pub mod RightPlaces

@@ -24,8 +24,8 @@ use rp_ast::{CallWord, CompareOp, ExprArm, ExprForm, ExprNode, Param};
 use rp_span::Span;
 use rp_value::Memory;
 use type_judges::{
-    Want, argument, bool_operand, bool_whole, held, int_operand, judge_arms, judge_place,
-    judge_written, left_want, matched, right_want, word_arg,
+    Want, argument, bool_operand, bool_whole, held, int_operand, judge_arms, judge_written,
+    left_want, matched, right_want, word_arg,
 };
 use type_rules::{Fault, Kind, Role};
 use type_tables::{NameTable, is_plain_word, sooner};
@@ -86,9 +86,12 @@ impl<'n, 'a> Walk<'n, 'a> {
             (λ p. spec.expr_sites p.names (scope_at later p) (want_view want) (tree.expr_view e.now)) (λ p. p.sight)
             × (told.plain ≡ is_plain (names_at self.old) self.old.vars (tree.expr_view e.now))) }
     {
+        if self.is_right_leaf(want, e) {
+            return Ok(nothing());
+        }
         self.mark_expr(e)?;
         let below = self.below(want, e)?;
-        let here = judge_place(&self.scope(), want, e, below.plain)?;
+        let here = self.own_fault(want, e, below.plain)?;
         Ok(Told {
             fault: sooner(here, below.fault),
             plain: below.plain,

@@ -9,10 +9,11 @@ mod marks;
 mod names;
 mod params;
 mod patterns;
+mod right;
 mod simple;
 mod stmts;
 mod text;
 mod told;
 mod walk;
 
-pub use text::first_fault;
+pub use text::{fault_with, first_fault};

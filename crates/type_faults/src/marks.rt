@@ -68,6 +68,9 @@ impl<'n, 'a> Walk<'n, 'a> {
         ensures { OnOk result (Marks self.old self.new (used_by (spec_access_of (names_at self.old) self.old.vars
             (tree.access_view access.now)))) }
     {
+        if self.words {
+            return Ok(());
+        }
         let what = access_of(self.names, &self.vars, access)?;
         self.mark(used_decl(what))
     }

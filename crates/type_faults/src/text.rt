@@ -25,14 +25,29 @@ fn walked<'n, 'a>(alloc: Global, names: &'n TextNames<'a>, ast: &'a Ast) -> Foun
     walk.decls(&ast.decls)
 }
 
-/// The first fault inside the declarations of a text that has these roots.
-fn inner<'r, 'a>(alloc: Global, roots: &'r Roots<'a>, ast: &'r Ast) -> Found
-    ensures { roots_seen (trees_of roots.now.parts.items) roots.now.places ≡ map crdt_in (ast_view ast.now)
-        → IfOk result (λ fault. fault ≡ first (all_names (ast_view ast.now))
-        (inner_from (all_names (ast_view ast.now)) 0 (ast_view ast.now))) }
+/// The first broken rule of a text that has these names, if one is.
+///
+/// `Err` is as that of `first_fault`.
+pub fn fault_with<'n, 'a>(
+    alloc: Global,
+    names: &'n TextNames<'a>,
+    ast: &'a Ast,
+) -> Result<Option<Fault>, Memory>
+    requires names { names_view names.now ≡ all_names (ast_view ast.now) }
+    ensures { IfOk result (λ fault. fault ≡ spec.first_fault (ast_view ast.now)) }
+{
+    let named = decls_differ(alloc, ast.decls.as_slice())?;
+    let below = walked(alloc, names, ast)?;
+    Ok(sooner(named, below))
+}
+
+/// The first broken rule of a text that has these roots, if one is.
+fn fault_of_roots<'r, 'a>(alloc: Global, roots: &'r Roots<'a>, ast: &'r Ast) -> Found
+    requires roots { roots_seen (trees_of roots.now.parts.items) roots.now.places ≡ map crdt_in (ast_view ast.now) }
+    ensures { IfOk result (λ fault. fault ≡ spec.first_fault (ast_view ast.now)) }
 {
     let names = names_of(alloc, &*roots, ast)?;
-    walked(alloc, &names, ast)
+    fault_with(alloc, &names, ast)
 }
 
 /// The first broken rule of a text, if one is: that whose token starts first, and of those with one
@@ -43,8 +58,6 @@ fn inner<'r, 'a>(alloc: Global, roots: &'r Roots<'a>, ast: &'r Ast) -> Found
 pub fn first_fault(alloc: Global, ast: &Ast) -> Result<Option<Fault>, Memory>
     ensures { IfOk result (λ fault. fault ≡ spec.first_fault (ast_view ast.now)) }
 {
-    let named = decls_differ(alloc, ast.decls.as_slice())?;
     let roots = Roots::of(alloc, ast.decls.as_slice())?;
-    let below = inner(alloc, &roots, &*ast)?;
-    Ok(sooner(named, below))
+    fault_of_roots(alloc, &roots, &*ast)
 }

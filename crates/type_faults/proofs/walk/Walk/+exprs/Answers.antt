@@ -21,10 +21,23 @@ use Rattle.text_names.proofs.Entries.{drop_past, if_ok}
 use Rattle.type_faults.specs.Walks.{Stand, Walks, names_at, scope_at, seeing, sight_of, stand_of}
 use Rattle.type_faults.proofs.Meeting.{ExprArmsWalked, expr_arm_name, expr_arm_own, expr_arms_ended, expr_arms_next, expr_arms_started}
 use Rattle.type_faults.proofs.Forms.{arg_next, formed_as, formed_told, pair_formed, step_told, whole_expr}
+use Rattle.type_faults.proofs.RightLaws.{leaf_right}
 use Rattle.type_faults.proofs.Plain.{plain_ended, plain_next, steps_ended, steps_next}
 use Rattle.type_faults.proofs.Lists.{bound_gone, next_in, take_front}
 use Rattle.type_faults.proofs.Walked.{both, both_of, ended, follows, here, judged_at, placed, recast, same_names, started, stepped, then_turned}
 use Rattle.type_faults.proofs.walk.Walk.+exprs.Goals as goal
+
+pub term-returns-then-is_right_leaf : goal.term-returns-then-is_right_leaf
+term-returns-then-is_right_leaf t c = λ later counted.
+    let a = c.args.self.now in
+    let want = want_view c.args.want in
+    let e = tree.expr_view c.args.e.now in
+    let sites = λ (p : Stand). spec.expr_sites p.names (scope_at later p) want e in
+    let right = leaf_right (names_at a) (scope_at later (stand_of a)) want e (sym c.is_right_leaf.ensures ∙ c.if-is_right_leaf.true) in (
+      subst (λ f. Walks later a a f sites (λ p. p.sight)) (sym c.nothing.ensures.fault)
+          (here {later = later} sites right.lawful right.unused counted),
+      c.nothing.ensures.plain ∙ sym right.plain,
+    )
 
 pub term-returns : goal.term-returns
 term-returns t c = λ later counted.
@@ -35,15 +48,12 @@ term-returns t c = λ later counted.
     let marked = c.in_ok-mark_expr.ensures later in
     let below = c.in_ok-below.ensures later (subst (λ entries. IsCounted entries later) (sym marked.later) counted) in
     let stands = below.0.stands ∙ marked.stands in
-    let scope = c.scope.ensures.scope later in
     let plain = below.1 ∙ ap (λ (p : Stand). is_plain_form p.names p.sight.vars (tree.expr_form_view c.args.e.now.what)) marked.stands
     ∙ sym (ap (is_plain n a.vars) (expr_view-parts c.args.e.now)) in
-    let told = plain ∙ sym (ap₂ (λ m vs. is_plain m vs e) c.scope.ensures.names (ap (λ sc. sc.vars) scope)
-    ∙ ap (λ (p : Stand). is_plain p.names p.sight.vars e) stands) in
-    let listed = subst (λ entries. IsCounted entries later) (sym c.scope.ensures.later) below.0.counted in
-    let here = judged_at (λ sc. Site.place sc want e) c.scope.ensures.names scope (c.in_ok-here.ensures later listed told)
+    let told = plain ∙ sym (ap (λ (p : Stand). is_plain p.names p.sight.vars e) stands) in
+    let own = c.in_ok-here.ensures later below.0.counted told
     ∙ ap (λ (p : Stand). judged p.names (Site.place (scope_at later p) want e)) stands in (
-      whole_expr want c.args.e.now (placed {later = later} (λ p. Site.place (scope_at later p) want e) here marked refl counted)
+      whole_expr want c.args.e.now (placed {later = later} (λ p. Site.place (scope_at later p) want e) own marked refl counted)
           below.0 c.sooner.ensures,
       plain,
     )

@@ -3,7 +3,7 @@ use Rattle.rp_ast.specs.View.{ast_view}
 use Rattle.type_rules.specs.declared.fault.Fault.{Fault}
 use Rattle.type_rules.specs.Faults.{IsFirstFault}
 use Rattle.type_rules.proofs.Least.{fault_least, none_lawful}
-use Rattle.resolve.proofs.program.resolve.Goals as goal
+use Rattle.resolve.proofs.program.with_names.Goals as goal
 
 pub lawful_program-requires-clause-lawful : goal.lawful_program-requires-clause-lawful
 lawful_program-requires-clause-lawful c = none_lawful (ast_view c.args.ast.now) (sym c.in_ok-fault.ensures ∙ c.in-None.is)

@@ -1,12 +1,11 @@
-use Rattle.std.proofs.Common.{map, ap, ap₂, ◌∙◌}
-use Rattle.text_names.specs.Parts.{crdt_in}
+use Rattle.std.proofs.Common.{ap, ap₂, ◌∙◌}
 use Rattle.rp_ast.specs.View.{ast_view, decls_view}
 use Rattle.type_rules.specs.Queries.{names_of}
 use Rattle.type_rules.specs.TextSites.{nothing_seen}
 use Rattle.type_rules.specs.Faults.{first, sooner}
-use Rattle.type_faults.specs.Texts.{named_from}
+use Rattle.type_faults.specs.Texts.{inner_from, named_from}
 use Rattle.type_faults.proofs.Named.{names_apart}
-use Rattle.type_faults.proofs.text.first_fault.Goals as goal
+use Rattle.type_faults.proofs.text.fault_with.Goals as goal
 
 pub returns : goal.returns
 returns c =
@@ -15,5 +14,5 @@ returns c =
     c.sooner.ensures
     ∙ ap₂ sooner
     (c.in_ok-named.ensures n ∙ ap (λ l. first n (named_from nothing_seen (decls_view l))) c.as_slice.ensures.items)
-    (c.in_ok-below.ensures (c.in_ok-roots.ensures ∙ ap (λ l. map crdt_in (decls_view l)) c.as_slice-2.ensures.items))
+    (c.in_ok-below.ensures ∙ ap (λ m. first m (inner_from m 0 tree)) c.requires.names)
     ∙ names_apart n nothing_seen 0 tree

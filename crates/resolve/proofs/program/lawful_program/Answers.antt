@@ -5,7 +5,7 @@ use Rattle.rp_lang.specs.ProgramView.{program_view}
 use Rattle.std.specs.Prelude.{IfOk}
 use Rattle.type_rules.specs.Faults.{IsLawful}
 use Rattle.desugaring.specs.Limits.{HasProgram, PassesLimit}
-use Rattle.resolve.proofs.program.program_of_roots.Goals as goal
+use Rattle.resolve.proofs.program.lawful_program.Goals as goal
 
 pub program_of_names-requires-clause-lawful : goal.program_of_names-requires-clause-lawful
 program_of_names-requires-clause-lawful c =
