@@ -29,7 +29,7 @@ use rp_value::{ConTable, Memory};
 use std::alloc::Global;
 use text_names::{Roots, TextNames};
 use text_tables::{Members, Tables, members_of, roots_of};
-use type_faults::fault_with;
+use type_faults::first_fault;
 use type_terms::names_of;
 
 /// Why a text is no program.
@@ -200,7 +200,7 @@ fn with_names<'a>(alloc: Global, names: &TextNames<'a>, ast: &'a Ast) -> Result<
         → IsFirstFault (ast_view ast.now) (Some (record { rule = rule; span = span })) }
     ensures limit { (l : SpecLimit) → IsErrOf result (err.Limit l) → PassesLimit (ast_view ast.now) l }
 {
-    match fault_with(alloc, names, ast)? {
+    match first_fault(alloc, names, ast)? {
         Some(fault) => Err(TypeErr::Rule {
             rule: fault.rule,
             span: fault.span,
@@ -210,11 +210,7 @@ fn with_names<'a>(alloc: Global, names: &TextNames<'a>, ast: &'a Ast) -> Result<
 }
 
 /// Which program a text is that has these roots.
-fn with_roots<'r, 'a>(
-    alloc: Global,
-    roots: &'r Roots<'a>,
-    ast: &'r Ast,
-) -> Result<Program, TypeErr>
+fn with_roots<'r, 'a>(alloc: Global, roots: &'r Roots<'a>, ast: &'r Ast) -> Result<Program, TypeErr>
     requires text { (bytes : Items ℕ) × IsText bytes (ast_view ast.now) }
     requires roots { roots_seen (trees_of roots.now.parts.items) roots.now.places ≡ map crdt_in (ast_view ast.now) }
     ensures program { IfOk result (λ p. HasProgram (ast_view ast.now) (program_view p)) }

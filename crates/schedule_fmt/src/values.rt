@@ -1,5 +1,5 @@
 //! Values at a place of a text.
-ghost use Rattle.std.specs.Prelude.{◌≡◌, ◌≤◌, ℕ, Option, length, Some, None, IfOk, IsErrOf};
+ghost use Rattle.std.specs.Prelude.{◌≡◌, ◌≤◌, [], ℕ, Option, length, Some, None, IfOk, IsErrOf};
 ghost use Rattle.rp_value.specs.Values.{Val};
 ghost use Rattle.schedule_fmt.specs.means.Readers.{prog};
 ghost use Rattle.schedule_fmt.specs.means.Reading as spec;
@@ -14,6 +14,7 @@ use crate::stop::Stop;
 use crate::strings::string;
 use program_names::con_fields;
 use rp_value::{List, Ty, Value};
+use std::alloc::Global;
 
 /// The most constructors that may stand inside each other.
 const DEPTH: u32 = 1_000;
@@ -28,6 +29,17 @@ fn added(read: Result<(Value, usize), Stop>, values: &mut List<Value>) -> Result
     let (value, to) = read?;
     values.push(value)?;
     Ok(to)
+}
+
+/// An empty list with room for a value of each field, or for one where there is none.
+fn room_for(alloc: Global, fields: &[Ty]) -> Result<List<Value>, Stop>
+    ensures empty { IfOk result (λ args. args ≡ []) }
+    ensures none { IsErrOf result stop.Absent → ⊥ }
+{
+    match Vec::with_capacity(alloc, fields.len().max(1)) {
+        Ok(room) => Ok(List::from_vec(room)),
+        Err(_) => Err(Stop::Memory),
+    }
 }
 
 impl<'n, 'a> Reader<'n, 'a> {
@@ -140,7 +152,7 @@ impl<'n, 'a> Reader<'n, 'a> {
             → spec.args_by (spec.value (prog self.now) self.now.text.now depth) self.now.text.now fields.now from
             ≡ None }
     {
-        let mut args = List::new(self.alloc);
+        let mut args = room_for(self.alloc, fields)?;
         let mut at = from;
         for i in 0..self.text.len() {
             let to = self.value(asked_at(fields, i), at, depth, &mut args)?;

@@ -1,5 +1,5 @@
 -- Where one look tells that a place is right, no rule is broken there.
-use Rattle.std.proofs.Common.{◌≡◌, ℕ, Bool, true, false, not, ◌&&◌, ◌||◌, List, [], ◌∷◌, ◌++◌, Option, Some, None, refl, sym, ap, ap₂, ◌∙◌, true≢false}
+use Rattle.std.proofs.Common.{◌≡◌, ℕ, Bool, true, false, not, ◌&&◌, ◌||◌, [], ◌++◌, Option, Some, None, refl, sym, ap, ap₂, ◌∙◌, true≢false}
 use Rattle.std.specs.Prelude.{◌==◌, if◌then◌else◌}
 use Rattle.std.specs.Option.{is_some}
 use Rattle.rp_span.specs.declared.Span.{Span}
@@ -7,7 +7,7 @@ use Rattle.rp_grammar.specs.Trees.{AccessTree, ArgTrees, ExprTree, ExprForm, Ide
 use Rattle.type_rules.specs.declared.kind.Kind.{Kind}
 use Rattle.type_rules.specs.Names.{Names, entry_named, text_of}
 use Rattle.type_rules.specs.Kinds.{bool_kind, int_kind}
-use Rattle.type_rules.specs.Accesses.{Access, Var, access_kind, args_fit, find_var, of_name}
+use Rattle.type_rules.specs.Accesses.{Var, access_kind, args_fit, find_var, of_name}
 use Rattle.type_rules.specs.Typing.{is_plain, is_plain_access, type_of}
 use Rattle.type_rules.specs.Sites.{Scope, Site, Want}
 use Rattle.type_rules.specs.Starts.{span_of, start}

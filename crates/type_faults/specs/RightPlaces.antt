@@ -1,5 +1,5 @@
 -- Where one look at a place tells that no rule is broken there.
-use Rattle.std.specs.Prelude.{Bool, true, false, not, ◌&&◌, ◌||◌, ◌==◌, List, Option, Some, None, if◌then◌else◌}
+use Rattle.std.specs.Prelude.{Bool, false, not, ◌&&◌, ◌||◌, ◌==◌, List, Option, Some, None, if◌then◌else◌}
 use Rattle.rp_grammar.specs.Trees.{AccessTree, ArgTrees, ExprTree, ExprForm, StepTrees}
 use Rattle.type_rules.specs.declared.kind.Kind.{Kind}
 use Rattle.type_rules.specs.Names.{text_of}

@@ -16,4 +16,4 @@ mod text;
 mod told;
 mod walk;
 
-pub use text::{fault_with, first_fault};
+pub use text::first_fault;

@@ -66,6 +66,18 @@ impl<'a> Seen<'a> {
             DeclForm::Proc(proc) => name_fault(&mut self.others, &proc.name),
         }
     }
+
+    /// That of the names of declarations.
+    fn all(&mut self, decls: &'a [Decl]) -> Found
+        ensures { (n : Names) (seen : AllSeen) → AreSeen self.old seen
+            → IfOk result (λ fault. fault ≡ first n (named_from seen (tree.decls_view decls.now))) }
+    {
+        let mut best = None;
+        for decl in decls {
+            best = sooner(best, self.declared(&decl.what)?);
+        }
+        Ok(best)
+    }
 }
 
 /// The first fault of a name behind those of the table, to which it is put.
@@ -121,10 +133,6 @@ pub(crate) fn fields_differ<'a>(alloc: Global, fields: &'a [FieldNode]) -> Found
 pub(crate) fn decls_differ<'a>(alloc: Global, decls: &'a [Decl]) -> Found
     ensures { (n : Names) → IfOk result (λ fault. fault ≡ first n (named_from nothing_seen (tree.decls_view decls.now))) }
 {
-    let mut best = None;
     let mut seen = Seen::new(alloc);
-    for decl in decls {
-        best = sooner(best, seen.declared(&decl.what)?);
-    }
-    Ok(best)
+    seen.all(decls)
 }

@@ -1,10 +1,9 @@
-ghost use Rattle.std.specs.Prelude.{◌≡◌, IfOk, map};
+ghost use Rattle.std.specs.Prelude.{◌≡◌, IfOk};
 ghost use Rattle.rp_ast.specs.View.{ast_view};
 ghost use Rattle.type_rules.specs.Queries.{names_of as all_names};
 ghost use Rattle.type_rules.specs.Faults as spec;
 ghost use Rattle.type_rules.specs.Faults.{first};
 ghost use Rattle.text_names.specs.Declarations.{names_view};
-ghost use Rattle.text_names.specs.Parts.{crdt_in, roots_seen, trees_of};
 ghost use Rattle.type_faults.specs.Texts.{inner_from};
 
 use crate::names::decls_differ;
@@ -12,10 +11,9 @@ use crate::walk::{Found, Walk};
 use rp_ast::Ast;
 use rp_value::Memory;
 use std::alloc::Global;
-use text_names::{Roots, TextNames};
+use text_names::TextNames;
 use type_rules::Fault;
 use type_tables::sooner;
-use type_terms::names_of;
 
 /// The first fault inside the declarations of a text that has these names.
 fn walked<'n, 'a>(alloc: Global, names: &'n TextNames<'a>, ast: &'a Ast) -> Found
@@ -25,10 +23,12 @@ fn walked<'n, 'a>(alloc: Global, names: &'n TextNames<'a>, ast: &'a Ast) -> Foun
     walk.decls(&ast.decls)
 }
 
-/// The first broken rule of a text that has these names, if one is.
+/// The first broken rule of a text that has these names, if one is: that whose token starts first, and of
+/// those with one start the one of the least number.
 ///
-/// `Err` is as that of `first_fault`.
-pub fn fault_with<'n, 'a>(
+/// `Err` is want of memory. For a tree of no text it is also a `Maybe` nested 2^32 times, a token whose
+/// end is past 2^32, or a name declared later 2^32 times.
+pub fn first_fault<'n, 'a>(
     alloc: Global,
     names: &'n TextNames<'a>,
     ast: &'a Ast,
@@ -39,25 +39,4 @@ pub fn fault_with<'n, 'a>(
     let named = decls_differ(alloc, ast.decls.as_slice())?;
     let below = walked(alloc, names, ast)?;
     Ok(sooner(named, below))
-}
-
-/// The first broken rule of a text that has these roots, if one is.
-fn fault_of_roots<'r, 'a>(alloc: Global, roots: &'r Roots<'a>, ast: &'r Ast) -> Found
-    requires roots { roots_seen (trees_of roots.now.parts.items) roots.now.places ≡ map crdt_in (ast_view ast.now) }
-    ensures { IfOk result (λ fault. fault ≡ spec.first_fault (ast_view ast.now)) }
-{
-    let names = names_of(alloc, &*roots, ast)?;
-    fault_with(alloc, &names, ast)
-}
-
-/// The first broken rule of a text, if one is: that whose token starts first, and of those with one
-/// start the one of the least number.
-///
-/// `Err` is want of memory. For a tree of no text it is also a `Maybe` nested 2^32 times, a token whose
-/// end is past 2^32, or a name declared later 2^32 times.
-pub fn first_fault(alloc: Global, ast: &Ast) -> Result<Option<Fault>, Memory>
-    ensures { IfOk result (λ fault. fault ≡ spec.first_fault (ast_view ast.now)) }
-{
-    let roots = Roots::of(alloc, ast.decls.as_slice())?;
-    fault_of_roots(alloc, &roots, &*ast)
 }

@@ -24,7 +24,7 @@ use Rattle.type_faults.proofs.Forms.{arg_next, formed_as, formed_told, pair_form
 use Rattle.type_faults.proofs.RightLaws.{leaf_right}
 use Rattle.type_faults.proofs.Plain.{plain_ended, plain_next, steps_ended, steps_next}
 use Rattle.type_faults.proofs.Lists.{bound_gone, next_in, take_front}
-use Rattle.type_faults.proofs.Walked.{both, both_of, ended, follows, here, judged_at, placed, recast, same_names, started, stepped, then_turned}
+use Rattle.type_faults.proofs.Walked.{both, both_of, ended, follows, here, placed, recast, same_names, started, stepped, then_turned}
 use Rattle.type_faults.proofs.walk.Walk.+exprs.Goals as goal
 
 pub term-returns-then-is_right_leaf : goal.term-returns-then-is_right_leaf

@@ -5,7 +5,7 @@ use Rattle.type_rules.specs.TextSites.{nothing_seen}
 use Rattle.type_rules.specs.Faults.{first, sooner}
 use Rattle.type_faults.specs.Texts.{inner_from, named_from}
 use Rattle.type_faults.proofs.Named.{names_apart}
-use Rattle.type_faults.proofs.text.fault_with.Goals as goal
+use Rattle.type_faults.proofs.text.first_fault.Goals as goal
 
 pub returns : goal.returns
 returns c =
