@@ -11,14 +11,14 @@ use Rattle.refute_defs.specs.Views.{node_view}
 use Rattle.refute_defs.specs.Branches as spec
 use Rattle.refute_defs.specs.Branches.{Branch, extend, extend_each, with_const}
 use Rattle.refute_defs.specs.Verdicts.{Verdict, Bad, verdict_from}
-use Rattle.refute_check.specs.declared.additions.Addition.{Addition}
-use Rattle.refute_check.specs.declared.branch.OpenBranch.{OpenBranch}
+use Rattle.refute_rules.specs.declared.additions.Addition.{Addition}
+use Rattle.refute_branch.specs.declared.branch.OpenBranch.{OpenBranch}
 use Rattle.refute_check.specs.declared.walk.Waiting.{Waiting}
 use Rattle.refute_check.specs.declared.error.CheckErr.{CheckErr}
 use Rattle.refute_check.specs.declared.error.CheckErr.TheVariants as err
-use Rattle.refute_check.specs.means.Added.{addition_view}
+use Rattle.refute_rules.specs.Added.{addition_view}
 use Rattle.refute_check.specs.Answers.{IsVerdict, IfBad}
-use Rattle.refute_check.specs.means.Lent.{branch_view}
+use Rattle.refute_branch.specs.Views.{branch_view}
 use Rattle.refute_check.specs.means.Waits.{waiting_branch, waiting_branches, open_branches, AreNested, AreWithin, wait, node_children, node_rule}
 
 -- # Lists

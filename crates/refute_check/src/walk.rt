@@ -2,23 +2,19 @@
 //! it keeps how much of that branch it begins with, so that none is copied.
 ghost use Rattle.std.specs.Prelude.{◌≡◌, ◌≤◌, suc, List as Items, ◌∷◌, ◌++◌, IfOk, OnOk, IsErrOf, Some, None, true, length, map, take, reverse};
 ghost use Rattle.rp_logic.specs.SigView.{sig_view};
-ghost use Rattle.refute_defs.specs.Branches.{root};
 ghost use Rattle.refute_defs.specs.Uses.{Nd};
 ghost use Rattle.refute_defs.specs.Verdicts.{Bad, verdict, verdict_from};
 ghost use Rattle.refute_defs.specs.Views.{node_view, given_view};
-ghost use Rattle.refute_check.specs.means.Lent.{branch_view};
-ghost use Rattle.refute_check.specs.means.Added.{addition_view};
+ghost use Rattle.refute_branch.specs.Views.{branch_view};
+ghost use Rattle.refute_rules.specs.Added.{addition_view};
 ghost use Rattle.refute_check.specs.Answers.{IsVerdict, IfBad};
-ghost use Rattle.refute_check.specs.means.Marks.{HasMarks};
+ghost use Rattle.refute_branch.specs.Marks.{HasMarks};
 ghost use Rattle.refute_check.specs.means.Waits.{waiting_branch, waiting_branches, open_branches, AreWithin, wait, node_children, node_rule};
 
-use crate::additions::Addition;
-use crate::branch::{OpenBranch, add_formula};
-use crate::conclude::children;
 use crate::error::CheckErr;
-use crate::marks::drop_marks;
-use crate::stop::Stop;
+use refute_branch::{OpenBranch, add_formula, go_back, start};
 use refute_defs::Node;
+use refute_rules::{Addition, Stop, children};
 use rp_logic::{Fml, Sig};
 use rp_value::{List, Memory};
 use std::alloc::Global;
@@ -30,28 +26,6 @@ pub(crate) struct Waiting {
     pub formulas: u32,
     pub added: u32,
     pub addition: Addition,
-}
-
-/// Lets go all but the first elements.
-fn shorten<T: Drop>(list: &mut List<T>, n: u32)
-    ensures { list.new ≡ take n list.old }
-{
-    while list.count() > n {
-        list.pop();
-    }
-}
-
-/// Lets go all but the first formulas and constants of the branch.
-fn go_back(sig: &Sig, b: &mut OpenBranch, formulas: u32, added: u32)
-    requires fewer { formulas ≤ length b.old.formulas }
-    requires marked { HasMarks sig.now b.old }
-    ensures formulas { b.new.formulas ≡ take formulas b.old.formulas }
-    ensures added { b.new.added ≡ take added b.old.added }
-    ensures marked { HasMarks sig.now b.new }
-{
-    shorten(&mut b.formulas, formulas);
-    shorten(&mut b.added, added);
-    drop_marks(&mut b.marks, formulas);
 }
 
 /// The branch that waited becomes the one that is kept.
@@ -186,23 +160,6 @@ fn visit(
         }),
         Err(Stop::Memory) => Err(CheckErr::Memory),
     }
-}
-
-/// The branch of the root.
-#[tactic(auto, using(crate::proofs::MarkedBranches::started, crate::proofs::Marking::none_marked))]
-fn start(alloc: Global, sig: &Sig, given: &List<Fml>) -> Result<OpenBranch, Memory>
-    ensures branch { IfOk result (λ b. branch_view b ≡ root (given_view given.now)) }
-    ensures marked { IfOk result (λ b. HasMarks sig.now b) }
-{
-    let mut b = OpenBranch {
-        formulas: List::new(alloc),
-        added: List::new(alloc),
-        marks: List::new(alloc),
-    };
-    for f in given.as_slice() {
-        add_formula(sig, &mut b, f.copy(alloc)?)?;
-    }
-    Ok(b)
 }
 
 /// The verdict of the nodes, as trees of the given formulas.

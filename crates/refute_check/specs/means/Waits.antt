@@ -5,10 +5,10 @@ use Rattle.refute_defs.specs.Uses.{Nd, Rule, Unvisited, Current}
 use Rattle.refute_defs.specs.Branches as spec
 use Rattle.refute_defs.specs.Branches.{Branch, extend}
 use Rattle.refute_defs.specs.Children.{children}
-use Rattle.refute_check.specs.declared.additions.Addition.{Addition}
-use Rattle.refute_check.specs.declared.branch.OpenBranch.{OpenBranch}
+use Rattle.refute_rules.specs.declared.additions.Addition.{Addition}
+use Rattle.refute_branch.specs.declared.branch.OpenBranch.{OpenBranch}
 use Rattle.refute_check.specs.declared.walk.Waiting.{Waiting}
-use Rattle.refute_check.specs.means.Added.{addition_view}
+use Rattle.refute_rules.specs.Added.{addition_view}
 
 -- the first formulas and constants of the branch, and what is added to them
 abbrev pub waiting_branch : Branch → Waiting → Branch

@@ -1,7 +1,7 @@
 use Rattle.std.proofs.Common.{◌++◌, ◌∙◌, ap₂, map, reverse}
 use Rattle.rp_logic.specs.SigView.{sig_view}
 use Rattle.refute_defs.specs.Views.{node_view}
-use Rattle.refute_check.specs.means.Lent.{branch_view}
+use Rattle.refute_branch.specs.Views.{branch_view}
 use Rattle.refute_check.specs.means.Waits.{open_branches, wait}
 use Rattle.refute_check.proofs.Walks.{children_within, goes_on}
 use Rattle.refute_check.proofs.walk.visit.Goals as goal

@@ -2,7 +2,7 @@ use Rattle.std.proofs.Common.{◌≡◌, ◌∙◌, ◌∷◌, suc, map, drop, B
 use Rattle.rp_logic.specs.SigView.{sig_view}
 use Rattle.refute_defs.specs.Views.{node_view}
 use Rattle.refute_defs.specs.Verdicts.{verdict_from}
-use Rattle.refute_check.specs.means.Lent.{branch_view}
+use Rattle.refute_branch.specs.Views.{branch_view}
 use Rattle.refute_check.specs.means.Waits.{open_branches}
 use Rattle.refute_check.proofs.Walks.{too_many, walked, next_node, refused}
 use Rattle.refute_check.proofs.walk.walk.Goals as goal

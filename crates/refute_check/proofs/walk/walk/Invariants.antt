@@ -2,8 +2,8 @@ use Rattle.std.proofs.Common.{◌≡◌, drop, map}
 use Rattle.rp_logic.specs.SigView.{sig_view}
 use Rattle.refute_defs.specs.Views.{node_view, given_view}
 use Rattle.refute_defs.specs.Verdicts.{verdict, verdict_from}
-use Rattle.refute_check.specs.means.Lent.{branch_view}
-use Rattle.refute_check.specs.means.Marks.{HasMarks}
+use Rattle.refute_branch.specs.Views.{branch_view}
+use Rattle.refute_branch.specs.Marks.{HasMarks}
 use Rattle.refute_check.specs.means.Waits.{open_branches, AreWithin}
 use Rattle.refute_check.proofs.walk.walk.Given as goal
 

@@ -1,0 +1,8 @@
+use Rattle.std.proofs.Common.{◌≡◌, take, length}
+use Rattle.refute_branch.proofs.branch.shorten.Given as goal
+
+abbrev pub invariant-loop-list : goal.invariant-loop-list
+invariant-loop-list g l = take l.n l.list ≡ take l.n l.initial.list
+
+abbrev pub decreases-loop-list : goal.decreases-loop-list
+decreases-loop-list g l = length l.list

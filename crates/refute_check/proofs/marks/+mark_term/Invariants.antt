@@ -1,9 +1,0 @@
-use Rattle.std.proofs.Common.{◌≡◌, drop, reverse}
-use Rattle.rp_logic.specs.Views.{terms_view}
-use Rattle.refute_check.specs.means.Marks.{with_terms}
-use Rattle.refute_check.proofs.marks.+mark_term.Given as goal
-
-abbrev pub invariant-mark_terms-loop-t : goal.invariant-mark_terms-loop-t
-invariant-mark_terms-loop-t l =
-    with_terms l.consts l.place (terms_view l.terms) (reverse l.initial.marks)
-    ≡ with_terms l.consts l.place (terms_view (drop l.t-index l.terms)) (reverse l.marks)

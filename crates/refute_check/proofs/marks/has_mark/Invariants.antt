@@ -1,6 +1,0 @@
-use Rattle.std.proofs.Common.{◌≡◌, drop}
-use Rattle.refute_check.specs.means.Marks.{is_marked}
-use Rattle.refute_check.proofs.marks.has_mark.Given as goal
-
-abbrev pub invariant-loop-mark : goal.invariant-loop-mark
-invariant-loop-mark l = is_marked l.c l.marks ≡ is_marked l.c (drop l.mark-index l.marks)

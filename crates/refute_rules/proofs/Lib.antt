@@ -1,0 +1,4 @@
+pub mod Added
+pub mod Cases
+pub mod Lists
+pub mod Sides

@@ -1,0 +1,4 @@
+-- What only proofs and the contracts of private functions cite.
+pub mod Conclusions
+pub mod Made
+pub mod Replaced
