@@ -1,6 +1,6 @@
 //! The table of constructors of a text's program.
 
-ghost use Rattle.std.specs.Prelude.{◌≡◌, ◌++◌, ◌∷◌, [], IfOk, Some, map};
+ghost use Rattle.std.specs.Prelude.{◌≡◌, ◌++◌, ◌∷◌, [], IfOk, OnOk, Some, map};
 ghost use Rattle.rp_ast.specs.View.{con_view};
 ghost use Rattle.type_rules.specs.Matches.{bool_cases, con_case, maybe_cases};
 ghost use Rattle.type_terms.specs.Views.{cases_view};
@@ -16,20 +16,18 @@ use std::alloc::Global;
 use type_rules::Kind;
 use type_terms::{Cases, cases_of};
 
-/// With a constructor of this name.
-fn with_con(
+/// Adds a constructor of this name.
+fn push_con(
     alloc: Global,
-    cons: List<ConDecl>,
+    cons: &mut List<ConDecl>,
     name: &[u8],
     of: u32,
     fields: List<Ty>,
-) -> Result<List<ConDecl>, Memory>
-    ensures { IfOk result (λ more. more ≡ cons ++ spec.con_of name.now of fields ∷ []) }
+) -> Result<(), Memory>
+    ensures { OnOk result (cons.new ≡ cons.old ++ spec.con_of name.now of fields ∷ []) }
 {
-    let mut cons = cons;
     let name = copy_bytes(alloc, name)?;
-    cons.push(ConDecl { name, of, fields })?;
-    Ok(cons)
+    cons.push(ConDecl { name, of, fields })
 }
 
 impl<'n, 'a> Tables<'n, 'a> {
@@ -43,35 +41,30 @@ impl<'n, 'a> Tables<'n, 'a> {
         }
     }
 
-    fn bool_cons(
-        &self,
-        alloc: Global,
-        kind: Kind,
-        cons: List<ConDecl>,
-    ) -> Result<List<ConDecl>, Memory>
-        ensures { IfOk result (Grows (spec.con_decl (tables_view self.now)) cons (cons_with kind bool_cases)) }
+    fn bool_cons(&self, alloc: Global, kind: Kind, cons: &mut List<ConDecl>) -> Result<(), Memory>
+        ensures { OnOk result (Grows (spec.con_decl (tables_view self.now)) cons.old (cons_with kind bool_cases) cons.new) }
     {
         let of = self.number_of(kind)?;
-        let cons = with_con(alloc, cons, b"false", of, List::new(alloc))?;
-        with_con(alloc, cons, b"true", of, List::new(alloc))
+        push_con(alloc, cons, b"false", of, List::new(alloc))?;
+        push_con(alloc, cons, b"true", of, List::new(alloc))
     }
 
-    /// Those of `Maybe` of this type.
+    /// Adds those of `Maybe` of this type.
     fn maybe_cons(
         &self,
         alloc: Global,
         kind: Kind,
         held: Kind,
-        cons: List<ConDecl>,
-    ) -> Result<List<ConDecl>, Memory>
-        ensures { IfOk result (Grows (spec.con_decl (tables_view self.now)) cons (cons_with kind (maybe_cases held))) }
+        cons: &mut List<ConDecl>,
+    ) -> Result<(), Memory>
+        ensures { OnOk result (Grows (spec.con_decl (tables_view self.now)) cons.old (cons_with kind (maybe_cases held)) cons.new) }
     {
         let of = self.number_of(kind)?;
         let held = self.ty_of(held)?;
-        let cons = with_con(alloc, cons, b"none", of, List::new(alloc))?;
+        push_con(alloc, cons, b"none", of, List::new(alloc))?;
         let mut fields = List::new(alloc);
         fields.push(held)?;
-        with_con(alloc, cons, b"some", of, fields)
+        push_con(alloc, cons, b"some", of, fields)
     }
 
     fn declared_con(
@@ -79,14 +72,14 @@ impl<'n, 'a> Tables<'n, 'a> {
         alloc: Global,
         kind: Kind,
         con: &ConNode,
-        cons: List<ConDecl>,
-    ) -> Result<List<ConDecl>, Memory>
-        ensures { IfOk result (Grows (spec.con_decl (tables_view self.now)) cons
-            (cons_with kind (con_case (tables_view self.now).names (con_view con.now) ∷ []))) }
+        cons: &mut List<ConDecl>,
+    ) -> Result<(), Memory>
+        ensures { OnOk result (Grows (spec.con_decl (tables_view self.now)) cons.old
+            (cons_with kind (con_case (tables_view self.now).names (con_view con.now) ∷ [])) cons.new) }
     {
         let of = self.number_of(kind)?;
         let fields = self.params(alloc, con.fields.as_slice())?;
-        with_con(alloc, cons, con.name.text.as_slice(), of, fields)
+        push_con(alloc, cons, con.name.text.as_slice(), of, fields)
     }
 
     fn declared_cons(
@@ -94,16 +87,15 @@ impl<'n, 'a> Tables<'n, 'a> {
         alloc: Global,
         kind: Kind,
         declared: &[ConNode],
-        cons: List<ConDecl>,
-    ) -> Result<List<ConDecl>, Memory>
-        ensures { IfOk result (Grows (spec.con_decl (tables_view self.now)) cons
-            (cons_with kind (map (con_case (tables_view self.now).names) (map con_view declared.now)))) }
+        cons: &mut List<ConDecl>,
+    ) -> Result<(), Memory>
+        ensures { OnOk result (Grows (spec.con_decl (tables_view self.now)) cons.old
+            (cons_with kind (map (con_case (tables_view self.now).names) (map con_view declared.now))) cons.new) }
     {
-        let mut cons = cons;
         for con in declared {
-            cons = self.declared_con(alloc, kind, con, cons)?;
+            self.declared_con(alloc, kind, con, cons)?;
         }
-        Ok(cons)
+        Ok(())
     }
 
     fn cases_cons(
@@ -111,10 +103,10 @@ impl<'n, 'a> Tables<'n, 'a> {
         alloc: Global,
         kind: Kind,
         cases: Cases,
-        cons: List<ConDecl>,
-    ) -> Result<List<ConDecl>, Memory>
-        ensures { IfOk result (Grows (spec.con_decl (tables_view self.now)) cons
-            (cons_with kind (cases_view (tables_view self.now).names cases.entry))) }
+        cons: &mut List<ConDecl>,
+    ) -> Result<(), Memory>
+        ensures { OnOk result (Grows (spec.con_decl (tables_view self.now)) cons.old
+            (cons_with kind (cases_view (tables_view self.now).names cases.entry)) cons.new) }
     {
         match cases {
             Cases::Bool => self.bool_cons(alloc, kind, cons),
@@ -125,19 +117,14 @@ impl<'n, 'a> Tables<'n, 'a> {
         }
     }
 
-    /// With the constructors of a datatype.
-    fn with_cons(
-        &self,
-        alloc: Global,
-        kind: &Kind,
-        cons: List<ConDecl>,
-    ) -> Result<List<ConDecl>, Memory>
-        ensures { IfOk result (Grows (spec.con_decl (tables_view self.now)) cons
-            (spec.cons_of (tables_view self.now).names kind.now)) }
+    /// Adds the constructors of a datatype.
+    fn add_cons(&self, alloc: Global, kind: &Kind, cons: &mut List<ConDecl>) -> Result<(), Memory>
+        ensures { OnOk result (Grows (spec.con_decl (tables_view self.now)) cons.old
+            (spec.cons_of (tables_view self.now).names kind.now) cons.new) }
     {
         match cases_of(self.names(), *kind) {
             Some(cases) => self.cases_cons(alloc, *kind, cases, cons),
-            None => Ok(cons),
+            None => Ok(()),
         }
     }
 
@@ -147,7 +134,7 @@ impl<'n, 'a> Tables<'n, 'a> {
     {
         let mut cons = List::new(alloc);
         for kind in self.kinds.as_slice() {
-            cons = self.with_cons(alloc, kind, cons)?;
+            self.add_cons(alloc, kind, &mut cons)?;
         }
         Ok(ConTable { cons })
     }

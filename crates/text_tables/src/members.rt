@@ -1,6 +1,6 @@
 //! The tables of operations and queries of a text's program.
 
-ghost use Rattle.std.specs.Prelude.{◌≡◌, ◌++◌, ◌∷◌, [], IfOk, List, Some, length, map};
+ghost use Rattle.std.specs.Prelude.{◌≡◌, ◌++◌, ◌∷◌, [], IfOk, List, OnOk, Some, length, map};
 ghost use Rattle.rp_ast.specs.View.{crdt_form_view, crdt_view, decl_view, decls_view, fields_view, type_view};
 ghost use Rattle.type_rules.specs.Kinds.{kind_of};
 ghost use Rattle.type_rules.specs.Paths as rules;
@@ -102,209 +102,203 @@ fn behind_key(alloc: Global, tables: &Tables, spot: &Spot, keys: &TypeNode) -> R
 }
 
 impl Members {
-    /// With an operation at the end of the path.
-    fn with_op(
-        self,
+    /// Adds an operation at the end of the path.
+    fn add_op(
+        &mut self,
         alloc: Global,
         tables: &Tables,
         spot: &Spot,
         kind: OpKind,
         member: Member,
-    ) -> Result<Members, Memory>
+    ) -> Result<(), Memory>
         ensures { (path : List KindStep) → IsAt (tables_view tables.now) path spot.now
             → objects.op_kind (does_view member.entry.does) ≡ Some kind
-            → IfOk result (DeclaresOwn (tables_view tables.now) spot.now.root path
-            (member_view (tables_view tables.now).names member.entry ∷ []) self) }
+            → OnOk result (DeclaresOwn (tables_view tables.now) spot.now.root path
+            (member_view (tables_view tables.now).names member.entry ∷ []) self.old self.new) }
     {
-        let Members { mut ops, queries } = self;
         let path = copy_list(alloc, spot.path.as_slice())?;
         let keys = copy_list(alloc, spot.keys.as_slice())?;
         let args = with_args(tables, keys, member)?;
-        ops.push(OpDecl {
+        self.ops.push(OpDecl {
             root: spot.root,
             path,
             kind,
             args,
-        })?;
-        Ok(Members { ops, queries })
+        })
     }
 
-    /// With a query at the end of the path.
-    fn with_query(
-        self,
+    /// Adds a query at the end of the path.
+    fn add_query(
+        &mut self,
         alloc: Global,
         tables: &Tables,
         spot: &Spot,
         kind: QueryKind,
         member: Member,
-    ) -> Result<Members, Memory>
+    ) -> Result<(), Memory>
         ensures { (path : List KindStep) → IsAt (tables_view tables.now) path spot.now
             → objects.query_kind (does_view member.entry.does) ≡ Some kind
-            → IfOk result (DeclaresOwn (tables_view tables.now) spot.now.root path
-            (member_view (tables_view tables.now).names member.entry ∷ []) self) }
+            → OnOk result (DeclaresOwn (tables_view tables.now) spot.now.root path
+            (member_view (tables_view tables.now).names member.entry ∷ []) self.old self.new) }
     {
-        let Members { ops, mut queries } = self;
         let path = copy_list(alloc, spot.path.as_slice())?;
         let keys = copy_list(alloc, spot.keys.as_slice())?;
         let args = with_args(tables, keys, member)?;
         let gives = member_kind(tables.names(), member)?;
         let result = tables.ty_of(gives)?;
-        queries.push(QueryDecl {
+        self.queries.push(QueryDecl {
             root: spot.root,
             path,
             kind,
             args,
             result,
-        })?;
-        Ok(Members { ops, queries })
+        })
     }
 
-    /// With what does this, over this type, at the end of the path.
-    fn with_member(
-        self,
+    /// Adds what does this, over this type, at the end of the path.
+    fn add_member(
+        &mut self,
         alloc: Global,
         tables: &Tables,
         spot: &Spot,
         does: &Does,
         over: Option<&TypeNode>,
-    ) -> Result<Members, Memory>
+    ) -> Result<(), Memory>
         ensures { (path : List KindStep) → IsAt (tables_view tables.now) path spot.now
-            → IfOk result (DeclaresOwn (tables_view tables.now) spot.now.root path
-            (member_over (written_kind (tables_view tables.now).names over.entry) does.now ∷ []) self) }
+            → OnOk result (DeclaresOwn (tables_view tables.now) spot.now.root path
+            (member_over (written_kind (tables_view tables.now).names over.entry) does.now ∷ []) self.old self.new) }
     {
         let member = Member { does: *does, over };
         match op_kind(*does) {
-            Some(kind) => self.with_op(alloc, tables, spot, kind, member),
+            Some(kind) => self.add_op(alloc, tables, spot, kind, member),
             None => match query_kind(*does) {
-                Some(kind) => self.with_query(alloc, tables, spot, kind, member),
-                None => Ok(self),
+                Some(kind) => self.add_query(alloc, tables, spot, kind, member),
+                None => Ok(()),
             },
         }
     }
 
-    /// With what does each of these, over this type.
-    fn with_members(
-        self,
+    /// Adds what does each of these, over this type.
+    fn add_members(
+        &mut self,
         alloc: Global,
         tables: &Tables,
         spot: &Spot,
         all: &[Does],
         over: Option<&TypeNode>,
-    ) -> Result<Members, Memory>
+    ) -> Result<(), Memory>
         ensures { (path : List KindStep) → IsAt (tables_view tables.now) path spot.now
-            → IfOk result (DeclaresOwn (tables_view tables.now) spot.now.root path
-            (map (member_over (written_kind (tables_view tables.now).names over.entry)) all.now) self) }
+            → OnOk result (DeclaresOwn (tables_view tables.now) spot.now.root path
+            (map (member_over (written_kind (tables_view tables.now).names over.entry)) all.now) self.old self.new) }
     {
-        let mut members = self;
         for does in all {
-            members = members.with_member(alloc, tables, spot, does, over)?;
+            self.add_member(alloc, tables, spot, does, over)?;
         }
-        Ok(members)
+        Ok(())
     }
 
-    /// With what a type has itself.
-    fn with_own(
-        self,
+    /// Adds what a type has itself.
+    fn add_own(
+        &mut self,
         alloc: Global,
         tables: &Tables,
         spot: &Spot,
         crdt: &CrdtNode,
-    ) -> Result<Members, Memory>
+    ) -> Result<(), Memory>
         ensures { (path : List KindStep) → IsAt (tables_view tables.now) path spot.now
-            → IfOk result (DeclaresOwn (tables_view tables.now) spot.now.root path
-            (rules.members_of (tables_view tables.now).names (rules.form_of (crdt_view crdt.now))) self) }
+            → OnOk result (DeclaresOwn (tables_view tables.now) spot.now.root path
+            (rules.members_of (tables_view tables.now).names (rules.form_of (crdt_view crdt.now))) self.old self.new) }
     {
         let all = type_terms::members_of(crdt);
-        self.with_members(alloc, tables, spot, all, data_of(crdt))
+        self.add_members(alloc, tables, spot, all, data_of(crdt))
     }
 
     #[cycle(members)]
-    fn with_fields(
-        self,
+    fn add_fields(
+        &mut self,
         alloc: Global,
         tables: &Tables,
         spot: &Spot,
         fields: &[FieldNode],
-    ) -> Result<Members, Memory>
+    ) -> Result<(), Memory>
         ensures { (path : List KindStep) → IsAt (tables_view tables.now) path spot.now
-            → IfOk result (DeclaresFields (tables_view tables.now) spot.now.root path 0 (fields_view fields.now) self) }
+            → OnOk result (DeclaresFields (tables_view tables.now) spot.now.root path 0 (fields_view fields.now) self.old self.new) }
     {
-        let mut members = self;
         let mut number: u32 = 0;
         for field in fields {
             let inner = spot.at_field(alloc, number)?;
-            members = members.with_crdt(alloc, tables, &inner, &field.crdt)?;
+            self.add_crdt(alloc, tables, &inner, &field.crdt)?;
             number = sum(number, 1)?;
         }
-        Ok(members)
+        Ok(())
     }
 
     #[cycle(members)]
-    fn with_inside(
-        self,
+    fn add_inside(
+        &mut self,
         alloc: Global,
         tables: &Tables,
         spot: &Spot,
         form: &CrdtForm,
-    ) -> Result<Members, Memory>
+    ) -> Result<(), Memory>
         ensures { (path : List KindStep) → IsAt (tables_view tables.now) path spot.now
-            → IfOk result (DeclaresInside (tables_view tables.now) spot.now.root path (crdt_form_view form.now) self) }
+            → OnOk result (DeclaresInside (tables_view tables.now) spot.now.root path (crdt_form_view form.now) self.old self.new) }
     {
         match form {
             CrdtForm::MapUw(keys, held) => {
                 let inner = behind_key(alloc, tables, spot, keys)?;
-                self.with_crdt(alloc, tables, &inner, held.get())
+                self.add_crdt(alloc, tables, &inner, held.get())
             }
             CrdtForm::MapDw(keys, held) => {
                 let inner = behind_key(alloc, tables, spot, keys)?;
-                self.with_crdt(alloc, tables, &inner, held.get())
+                self.add_crdt(alloc, tables, &inner, held.get())
             }
-            CrdtForm::Struct(fields) => self.with_fields(alloc, tables, spot, fields.as_slice()),
-            CrdtForm::SetAw(_) => Ok(self),
-            CrdtForm::SetRw(_) => Ok(self),
-            CrdtForm::Reg(_) => Ok(self),
-            CrdtForm::MvReg(_) => Ok(self),
-            CrdtForm::Counter => Ok(self),
+            CrdtForm::Struct(fields) => self.add_fields(alloc, tables, spot, fields.as_slice()),
+            CrdtForm::SetAw(_) => Ok(()),
+            CrdtForm::SetRw(_) => Ok(()),
+            CrdtForm::Reg(_) => Ok(()),
+            CrdtForm::MvReg(_) => Ok(()),
+            CrdtForm::Counter => Ok(()),
         }
     }
 
-    /// With what stands on a type and on its parts.
+    /// Adds what stands on a type and on its parts.
     #[cycle(members)]
-    fn with_crdt(
-        self,
+    fn add_crdt(
+        &mut self,
         alloc: Global,
         tables: &Tables,
         spot: &Spot,
         crdt: &CrdtNode,
-    ) -> Result<Members, Memory>
+    ) -> Result<(), Memory>
         ensures { (path : List KindStep) → IsAt (tables_view tables.now) path spot.now
-            → IfOk result (DeclaresOn (tables_view tables.now) spot.now.root path (crdt_view crdt.now) self) }
+            → OnOk result (DeclaresOn (tables_view tables.now) spot.now.root path (crdt_view crdt.now) self.old self.new) }
     {
-        let members = self.with_own(alloc, tables, spot, crdt)?;
-        members.with_inside(alloc, tables, spot, &crdt.what)
+        self.add_own(alloc, tables, spot, crdt)?;
+        self.add_inside(alloc, tables, spot, &crdt.what)
     }
 
-    /// With what stands on the root that a declaration declares, if it declares one, which has this number.
-    fn with_decl(
-        self,
+    /// Adds what stands on the root that a declaration declares, if it declares one, which has this number.
+    fn add_decl(
+        &mut self,
         alloc: Global,
         tables: &Tables,
         root: u32,
         decl: &Decl,
-    ) -> Result<Members, Memory>
-        ensures { IfOk result (DeclaresRoots (tables_view tables.now) root (roots_in (decl_view decl.now ∷ [])) self) }
+    ) -> Result<(), Memory>
+        ensures { OnOk result (DeclaresRoots (tables_view tables.now) root (roots_in (decl_view decl.now ∷ [])) self.old self.new) }
     {
         match &decl.what {
             DeclForm::Crdt(_, crdt) => {
                 let spot = Spot::at_root(alloc, root);
-                self.with_crdt(alloc, tables, &spot, crdt)
+                self.add_crdt(alloc, tables, &spot, crdt)
             }
-            DeclForm::IdType(_) => Ok(self),
-            DeclForm::Opaque(_) => Ok(self),
-            DeclForm::Datatype(_, _) => Ok(self),
-            DeclForm::Query(_) => Ok(self),
-            DeclForm::Invariant(_, _) => Ok(self),
-            DeclForm::Proc(_) => Ok(self),
+            DeclForm::IdType(_) => Ok(()),
+            DeclForm::Opaque(_) => Ok(()),
+            DeclForm::Datatype(_, _) => Ok(()),
+            DeclForm::Query(_) => Ok(()),
+            DeclForm::Invariant(_, _) => Ok(()),
+            DeclForm::Proc(_) => Ok(()),
         }
     }
 }
@@ -337,7 +331,7 @@ pub fn members_of(alloc: Global, tables: &Tables, decls: &[Decl]) -> Result<Memb
     };
     let mut root: u32 = 0;
     for decl in decls {
-        members = members.with_decl(alloc, tables, root, decl)?;
+        members.add_decl(alloc, tables, root, decl)?;
         root = sum(root, root_count(decl))?;
     }
     Ok(members)

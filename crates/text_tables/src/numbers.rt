@@ -58,9 +58,9 @@ impl<'n, 'a> Tables<'n, 'a> {
         ensures { IfOk result (λ tables. tables_view tables ≡ spec.tables_of (decls_view decls.now)) }
     {
         let atoms = atoms_before(alloc, names)?;
-        let procs = ProcTable::of(alloc, decls)?;
         let objects = ObjectTable::of(alloc, decls)?;
         let kinds = datatypes_in(alloc, names, decls)?;
+        let procs = ProcTable::of(alloc, decls)?;
         Ok(Tables {
             kinds,
             atoms,

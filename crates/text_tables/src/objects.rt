@@ -85,94 +85,89 @@ impl ObjectTable {
         }
     }
 
-    /// With an object that begins there, which has so many operations and queries itself. `Err` is also
+    /// Adds an object that begins there, which has so many operations and queries itself. `Err` is also
     /// that it doesn't begin behind all others, as each of a text does.
-    fn with_object(self, from: u32, own_ops: u32, own_queries: u32) -> Result<ObjectTable, Memory>
-        ensures { IfOk result (Adds self (means.object from self.ops self.queries ∷ []) own_ops own_queries) }
+    fn add_object(&mut self, from: u32, own_ops: u32, own_queries: u32) -> Result<(), Memory>
+        ensures { OnOk result (Adds self.old (means.object from self.old.ops self.old.queries ∷ []) own_ops own_queries self.new) }
     {
-        let ObjectTable {
-            mut starts,
-            end,
-            mut objects,
-            ops,
-            queries,
-            roots,
-        } = self;
-        if from < end {
+        if from < self.end {
             return Err(Memory);
         }
         let end = sum(from, 1)?;
-        let ops_end = sum(ops, own_ops)?;
-        let queries_end = sum(queries, own_queries)?;
-        starts.push(from)?;
-        objects.push(Object { from, ops, queries })?;
-        Ok(ObjectTable {
-            starts,
-            end,
-            objects,
-            ops: ops_end,
-            queries: queries_end,
-            roots,
-        })
-    }
-
-    #[cycle(objects)]
-    fn with_fields(self, fields: &[FieldNode]) -> Result<ObjectTable, Memory>
-        ensures { IfOk result (AddsFields self (fields_view fields.now)) }
-    {
-        let mut table = self;
-        for field in fields {
-            table = table.with_crdt(&field.crdt)?;
+        let ops = sum(self.ops, own_ops)?;
+        let queries = sum(self.queries, own_queries)?;
+        let object = Object {
+            from,
+            ops: self.ops,
+            queries: self.queries,
+        };
+        self.starts.push(from)?;
+        if self.objects.push(object).is_err() {
+            let _gone = self.starts.pop();
+            return Err(Memory);
         }
-        Ok(table)
+        self.end = end;
+        self.ops = ops;
+        self.queries = queries;
+        Ok(())
     }
 
     #[cycle(objects)]
-    fn with_inside(self, form: &CrdtForm) -> Result<ObjectTable, Memory>
-        ensures { IfOk result (AddsInside self (crdt_form_view form.now)) }
+    fn add_fields(&mut self, fields: &[FieldNode]) -> Result<(), Memory>
+        ensures { OnOk result (AddsFields self.old (fields_view fields.now) self.new) }
+    {
+        for field in fields {
+            self.add_crdt(&field.crdt)?;
+        }
+        Ok(())
+    }
+
+    #[cycle(objects)]
+    fn add_inside(&mut self, form: &CrdtForm) -> Result<(), Memory>
+        ensures { OnOk result (AddsInside self.old (crdt_form_view form.now) self.new) }
     {
         match form {
-            CrdtForm::MapUw(_, held) => self.with_crdt(held.get()),
-            CrdtForm::MapDw(_, held) => self.with_crdt(held.get()),
-            CrdtForm::Struct(fields) => self.with_fields(fields.as_slice()),
-            CrdtForm::SetAw(_) => Ok(self),
-            CrdtForm::SetRw(_) => Ok(self),
-            CrdtForm::Reg(_) => Ok(self),
-            CrdtForm::MvReg(_) => Ok(self),
-            CrdtForm::Counter => Ok(self),
+            CrdtForm::MapUw(_, held) => self.add_crdt(held.get()),
+            CrdtForm::MapDw(_, held) => self.add_crdt(held.get()),
+            CrdtForm::Struct(fields) => self.add_fields(fields.as_slice()),
+            CrdtForm::SetAw(_) => Ok(()),
+            CrdtForm::SetRw(_) => Ok(()),
+            CrdtForm::Reg(_) => Ok(()),
+            CrdtForm::MvReg(_) => Ok(()),
+            CrdtForm::Counter => Ok(()),
         }
     }
 
-    /// With a replicated type and its parts.
+    /// Adds a replicated type and its parts.
     #[cycle(objects)]
-    fn with_crdt(self, crdt: &CrdtNode) -> Result<ObjectTable, Memory>
-        ensures { IfOk result (AddsOn self (crdt_view crdt.now)) }
+    fn add_crdt(&mut self, crdt: &CrdtNode) -> Result<(), Memory>
+        ensures { OnOk result (AddsOn self.old (crdt_view crdt.now) self.new) }
     {
-        let table = self.with_object(crdt.span.from, own_ops(crdt), own_queries(crdt))?;
-        table.with_inside(&crdt.what)
+        self.add_object(crdt.span.from, own_ops(crdt), own_queries(crdt))?;
+        self.add_inside(&crdt.what)
     }
 
-    fn with_root(self, crdt: &CrdtNode) -> Result<ObjectTable, Memory>
-        ensures { IfOk result (AddsRoots self (crdt_view crdt.now ∷ [])) }
+    fn add_root(&mut self, crdt: &CrdtNode) -> Result<(), Memory>
+        ensures { OnOk result (AddsRoots self.old (crdt_view crdt.now ∷ []) self.new) }
     {
-        let mut table = self.with_crdt(crdt)?;
-        let roots = sum(table.roots, 1)?;
-        table.roots = roots;
-        Ok(table)
+        self.add_crdt(crdt)?;
+        let roots = sum(self.roots, 1)?;
+        self.roots = roots;
+        Ok(())
     }
 
-    /// With the root that a declaration declares, if it declares one.
-    fn with_decl(self, decl: &Decl) -> Result<ObjectTable, Memory>
-        ensures { IfOk result (AddsRoots self (crdts_in (decl_view decl.now ∷ []))) }
+    /// Adds the root that a declaration declares, if it declares one.
+    fn add_decl(&mut self, decl: &Decl) -> Result<(), Memory>
+        ensures { OnOk result (AddsRoots self.old (crdts_in (decl_view decl.now ∷ [])) self.new) }
     {
         match &decl.what {
-            DeclForm::Crdt(_, crdt) => self.with_root(crdt),
-            DeclForm::IdType(_) => Ok(self),
-            DeclForm::Opaque(_) => Ok(self),
-            DeclForm::Datatype(_, _) => Ok(self),
-            DeclForm::Query(_) => Ok(self),
-            DeclForm::Invariant(_, _) => Ok(self),
-            DeclForm::Proc(_) => Ok(self),
+            DeclForm::Crdt(_, crdt) => self.add_root(crdt),
+            DeclForm::IdType(_) => Ok(()),
+            DeclForm::Opaque(_) => Ok(()),
+            DeclForm::Datatype(_, _) => Ok(()),
+            DeclForm::Query(_) => Ok(()),
+            DeclForm::Invariant(_, _) => Ok(()),
+            DeclForm::Proc(_) => Ok(()),
         }
     }
 
@@ -183,7 +178,7 @@ impl ObjectTable {
     {
         let mut table = ObjectTable::new(alloc);
         for decl in decls {
-            table = table.with_decl(decl)?;
+            table.add_decl(decl)?;
         }
         Ok(table)
     }

@@ -1,6 +1,6 @@
 //! The procedures of a text by their numbers.
 
-ghost use Rattle.std.specs.Prelude.{◌≡◌, ◌++◌, ◌∷◌, [], IfOk, List};
+ghost use Rattle.std.specs.Prelude.{◌≡◌, ◌++◌, ◌∷◌, [], IfOk, List, OnOk};
 ghost use Rattle.rp_grammar.specs.Trees.{ProcTree as SpecProc};
 ghost use Rattle.rp_ast.specs.View.{decl_view, decls_view};
 ghost use Rattle.text_tables.specs.means.Kept.{AreProcs, procs_in};
@@ -19,28 +19,26 @@ pub(crate) struct ProcTable<'a> {
 }
 
 impl<'a> ProcTable<'a> {
-    /// With what a declaration declares, where these are declared before.
-    fn with_decl(self, decl: &'a Decl) -> Result<ProcTable<'a>, Memory>
-        ensures { (before : List SpecProc) → AreProcs before self.entry.numbers self.entry.count
-            → IfOk result (λ table. AreProcs (before ++ procs_in (decl_view decl.now ∷ [])) table.numbers
-            table.count) }
+    /// Adds what a declaration declares, where these are declared before.
+    fn add_decl(&mut self, decl: &'a Decl) -> Result<(), Memory>
+        ensures { (before : List SpecProc) → AreProcs before self.old.numbers self.old.count
+            → OnOk result (AreProcs (before ++ procs_in (decl_view decl.now ∷ [])) self.new.numbers
+            self.new.count) }
     {
         match &decl.what {
             DeclForm::Proc(proc) => {
-                let ProcTable { mut numbers, count } = self;
+                let count = self.count;
                 let end = sum(count, 1)?;
-                numbers.add(proc.name.text.as_slice(), count)?;
-                Ok(ProcTable {
-                    numbers,
-                    count: end,
-                })
+                self.numbers.add(proc.name.text.as_slice(), count)?;
+                self.count = end;
+                Ok(())
             }
-            DeclForm::IdType(_) => Ok(self),
-            DeclForm::Opaque(_) => Ok(self),
-            DeclForm::Datatype(_, _) => Ok(self),
-            DeclForm::Crdt(_, _) => Ok(self),
-            DeclForm::Query(_) => Ok(self),
-            DeclForm::Invariant(_, _) => Ok(self),
+            DeclForm::IdType(_) => Ok(()),
+            DeclForm::Opaque(_) => Ok(()),
+            DeclForm::Datatype(_, _) => Ok(()),
+            DeclForm::Crdt(_, _) => Ok(()),
+            DeclForm::Query(_) => Ok(()),
+            DeclForm::Invariant(_, _) => Ok(()),
         }
     }
 
@@ -53,7 +51,7 @@ impl<'a> ProcTable<'a> {
             count: 0,
         };
         for decl in decls {
-            table = table.with_decl(decl)?;
+            table.add_decl(decl)?;
         }
         Ok(table)
     }

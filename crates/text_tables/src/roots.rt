@@ -1,6 +1,6 @@
 //! The table of roots of a text's program.
 
-ghost use Rattle.std.specs.Prelude.{◌≡◌, ◌∷◌, [], IfOk, Some, map};
+ghost use Rattle.std.specs.Prelude.{◌≡◌, ◌∷◌, [], IfOk, OnOk, Some, map};
 ghost use Rattle.rp_ast.specs.View.{crdt_form_view, crdt_view, decl_view, decls_view, fields_view};
 ghost use Rattle.rp_lang.specs.Views.{crdt_fields_view as made_fields, crdt_view as made_crdt, root_view};
 ghost use Rattle.type_rules.specs.Queries.{names_of};
@@ -65,25 +65,23 @@ impl<'n, 'a> Tables<'n, 'a> {
         }
     }
 
-    /// With the root that a declaration declares, if it declares one.
-    fn with_root(&self, alloc: Global, roots: List<Root>, decl: &Decl) -> Result<List<Root>, Memory>
-        ensures { IfOk result (λ more. grown (spec.root_of (tables_view self.now)) (map root_view roots)
-            (roots_in (decl_view decl.now ∷ [])) ≡ Some (map root_view more)) }
+    /// Adds the root that a declaration declares, if it declares one.
+    fn add_root(&self, alloc: Global, roots: &mut List<Root>, decl: &Decl) -> Result<(), Memory>
+        ensures { OnOk result (grown (spec.root_of (tables_view self.now)) (map root_view roots.old)
+            (roots_in (decl_view decl.now ∷ [])) ≡ Some (map root_view roots.new)) }
     {
         match &decl.what {
             DeclForm::Crdt(name, crdt) => {
-                let mut roots = roots;
                 let name = copy_bytes(alloc, name.text.as_slice())?;
                 let crdt = self.crdt(alloc, crdt)?;
-                roots.push(Root { name, crdt })?;
-                Ok(roots)
+                roots.push(Root { name, crdt })
             }
-            DeclForm::IdType(_) => Ok(roots),
-            DeclForm::Opaque(_) => Ok(roots),
-            DeclForm::Datatype(_, _) => Ok(roots),
-            DeclForm::Query(_) => Ok(roots),
-            DeclForm::Invariant(_, _) => Ok(roots),
-            DeclForm::Proc(_) => Ok(roots),
+            DeclForm::IdType(_) => Ok(()),
+            DeclForm::Opaque(_) => Ok(()),
+            DeclForm::Datatype(_, _) => Ok(()),
+            DeclForm::Query(_) => Ok(()),
+            DeclForm::Invariant(_, _) => Ok(()),
+            DeclForm::Proc(_) => Ok(()),
         }
     }
 }
@@ -95,7 +93,7 @@ pub fn roots_of(alloc: Global, tables: &Tables, decls: &[Decl]) -> Result<List<R
 {
     let mut roots = List::new(alloc);
     for decl in decls {
-        roots = tables.with_root(alloc, roots, decl)?;
+        tables.add_root(alloc, &mut roots, decl)?;
     }
     Ok(roots)
 }

@@ -26,7 +26,7 @@ loop-decl-preserved c = λ new adds.
     let now = c.loop-decl.members in
     c.loop-decl.invariant new
     (subst (λ (xs : List Decl). DeclaresRoots t k (roots_in (decls_view xs)) now new) (sym (rest_is decls i x c.loop-decl-test.true c.decl-item.is))
-    (roots_step t k c.in_ok-root.root (decl_view x) (decls_view (drop (i + 1) decls)) now c.in_ok-members.members new c.in_ok-members.ensures
+    (roots_step t k c.in_ok-root.root (decl_view x) (decls_view (drop (i + 1) decls)) now c.add_decl.new.self new c.in_ok-add_decl.ensures
     (c.in_ok-root.ensures ∙ ap (λ m. k + m) c.root_count.ensures) adds))
 
 pub returns-clause-ops : goal.returns-clause-ops

@@ -21,10 +21,10 @@ loop-decl-preserved c =
     let i = c.loop-decl.decl-index in
     let x = c.decl-item.result in
     let rs : List Decl → List Root = λ xs. roots_in (decls_view xs) in
-    grown_step (root_of t) [] (map root_view c.loop-decl.roots) (map root_view c.in_ok-roots.roots) (rs decls) (rs (drop i decls)) (rs (x ∷ [])) (rs (drop (i + 1) decls))
+    grown_step (root_of t) [] (map root_view c.loop-decl.roots) (map root_view c.add_root.new.roots) (rs decls) (rs (drop i decls)) (rs (x ∷ [])) (rs (drop (i + 1) decls))
     c.loop-decl.invariant
     (ap rs (rest_is decls i x c.loop-decl-test.true c.decl-item.is) ∙ filter_map-append root_in (decl_view x ∷ []) (decls_view (drop (i + 1) decls)))
-    c.in_ok-roots.ensures
+    c.in_ok-add_root.ensures
 
 pub returns : goal.returns
 returns c =

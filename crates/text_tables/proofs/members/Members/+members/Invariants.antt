@@ -6,9 +6,9 @@ use Rattle.text_tables.specs.declared.members.Members.{Members}
 use Rattle.text_tables.specs.means.Rooted.{DeclaresFields, IsAt}
 use Rattle.text_tables.proofs.members.Members.+members.Given as goal
 
-abbrev pub invariant-with_fields-loop-field : goal.invariant-with_fields-loop-field
-invariant-with_fields-loop-field l =
+abbrev pub invariant-add_fields-loop-field : goal.invariant-add_fields-loop-field
+invariant-add_fields-loop-field l =
     let t = tables_view l.tables in
     (path : List KindStep) (new : Members) → IsAt t path l.spot
-    → DeclaresFields t l.spot.root path l.number (fields_view (drop l.field-index l.fields)) l.members new
+    → DeclaresFields t l.spot.root path l.number (fields_view (drop l.field-index l.fields)) l.self new
     → DeclaresFields t l.spot.root path 0 (fields_view l.fields) l.fn.self new

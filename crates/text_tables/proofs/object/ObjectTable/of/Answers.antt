@@ -21,7 +21,7 @@ loop-decl-preserved c = λ new adds.
     let now = c.loop-decl.table in
     c.loop-decl.invariant new
     (subst (λ (xs : List Decl). AddsRoots now (crdts_in (decls_view xs)) new) (sym (rest_is decls i x c.loop-decl-test.true c.decl-item.is))
-    (roots_step now c.in_ok-table.table new (decl_view x) (decls_view (drop (i + 1) decls)) c.in_ok-table.ensures adds))
+    (roots_step now c.add_decl.new.self new (decl_view x) (decls_view (drop (i + 1) decls)) c.in_ok-add_decl.ensures adds))
 
 pub returns : goal.returns
 returns c =

@@ -18,7 +18,7 @@ loop-decl-preserved c =
     let x = c.decl-item.result in
     let so_far = c.loop-decl.invariant in (
       so_far.0 ++ procs_in (decl_view x ∷ []),
-      c.in_ok-table.ensures so_far.0 so_far.1,
+      c.in_ok-add_decl.ensures so_far.0 so_far.1,
       procs_split so_far.0 (decl_view x) (decls_view (drop (i + 1) decls)) (decls_view decls)
           (ap (λ (xs : List Decl). so_far.0 ++ procs_in (decls_view xs)) (sym (rest_is decls i x c.loop-decl-test.true c.decl-item.is)) ∙ so_far.2),
     )

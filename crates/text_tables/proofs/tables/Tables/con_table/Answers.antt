@@ -18,8 +18,8 @@ loop-kind-preserved c =
     let i = c.loop-kind.kind-index in
     let x = get_or c.as_slice-kind-items.result.now i bool_kind in
     let cs : List Kind → List Con = λ xs. flat_map (cons_of t.names) xs in
-    grown_step (con_decl t) [] c.loop-kind.cons c.in_ok-cons.cons (cs kinds) (cs (drop i kinds)) (cons_of t.names x) (cs (drop (i + 1) kinds)) c.loop-kind.invariant
-    (ap cs (subst (λ (ks : List Kind). drop i ks ≡ x ∷ drop (i + 1) ks) all (drop_more c.as_slice-kind-items.result.now i bool_kind c.loop-kind-test.true))) c.in_ok-cons.ensures
+    grown_step (con_decl t) [] c.loop-kind.cons c.add_cons.new.cons (cs kinds) (cs (drop i kinds)) (cons_of t.names x) (cs (drop (i + 1) kinds)) c.loop-kind.invariant
+    (ap cs (subst (λ (ks : List Kind). drop i ks ≡ x ∷ drop (i + 1) ks) all (drop_more c.as_slice-kind-items.result.now i bool_kind c.loop-kind-test.true))) c.in_ok-add_cons.ensures
 
 pub returns : goal.returns
 returns c =

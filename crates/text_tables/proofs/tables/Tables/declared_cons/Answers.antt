@@ -17,8 +17,8 @@ loop-con-preserved c =
     let i = c.loop-con.con-index in
     let x = c.con-item.result in
     let cs : List ConNode → List Con = λ xs. cons_with c.args.kind (map (con_case t.names) (map con_view xs)) in
-    grown_step (con_decl t) c.args.cons c.loop-con.cons c.in_ok-cons.cons (cs all) (cs (drop i all)) (cs (x ∷ [])) (cs (drop (i + 1) all)) c.loop-con.invariant
-    (ap cs (rest_is all i x c.loop-con-test.true c.con-item.is)) c.in_ok-cons.ensures
+    grown_step (con_decl t) c.args.cons.now c.loop-con.cons c.declared_con.new.cons (cs all) (cs (drop i all)) (cs (x ∷ [])) (cs (drop (i + 1) all)) c.loop-con.invariant
+    (ap cs (rest_is all i x c.loop-con-test.true c.con-item.is)) c.in_ok-declared_con.ensures
 
 pub returns : goal.returns
 returns c =
@@ -26,4 +26,4 @@ returns c =
     let all = c.args.declared.now in
     let i = c.loop-con.con-index in
     let cs : List ConNode → List Con = λ xs. cons_with c.args.kind (map (con_case t.names) (map con_view xs)) in
-    grown_end (con_decl t) c.args.cons c.loop-con.cons (cs all) (cs (drop i all)) c.loop-con.invariant (ap cs (drop_past all i c.loop-con-test.false))
+    grown_end (con_decl t) c.args.cons.now c.loop-con.cons (cs all) (cs (drop i all)) c.loop-con.invariant (ap cs (drop_past all i c.loop-con-test.false))

@@ -11,4 +11,4 @@ abbrev pub invariant-loop-con : goal.invariant-loop-con
 invariant-loop-con l =
     let t = tables_view l.self in
     grown (con_decl t) l.cons (cons_with l.kind (map (con_case t.names) (map con_view (drop l.con-index l.declared))))
-    ≡ grown (con_decl t) l.fn.cons (cons_with l.kind (map (con_case t.names) (map con_view l.declared)))
+    ≡ grown (con_decl t) l.initial.cons (cons_with l.kind (map (con_case t.names) (map con_view l.declared)))

@@ -1,5 +1,5 @@
 use Rattle.std.proofs.Common.{◌≡◌, ap, sym, subst, ◌∙◌}
-use Rattle.std.specs.Prelude.{IfOk}
+use Rattle.std.specs.Prelude.{OnOk}
 use Rattle.std.specs.Option.{option_map}
 use Rattle.type_rules.specs.Matches.{cases_of}
 use Rattle.type_terms.specs.Views.{cases_view}
@@ -8,7 +8,7 @@ use Rattle.text_tables.specs.Seen.{tables_view}
 use Rattle.text_tables.specs.means.Grown.{Grows}
 use Rattle.text_tables.proofs.ConsLaw.{cons_are, no_cons}
 use Rattle.text_tables.proofs.Growing.{grows_none}
-use Rattle.text_tables.proofs.tables.Tables.with_cons.Goals as goal
+use Rattle.text_tables.proofs.tables.Tables.add_cons.Goals as goal
 
 pub returns-in-Some : goal.returns-in-Some
 returns-in-Some c =
@@ -17,7 +17,7 @@ returns-in-Some c =
     subst (λ n. option_map (cases_view n) c.cases_of.result ≡ cases_of n c.args.kind.now) c.names.ensures c.cases_of.ensures in
     let kind = c.args.kind.now in
     let cases = cases_view t.names c.in-Some.cases in
-    subst (λ cs. IfOk c.cases_cons.result (Grows (con_decl t) c.args.cons cs))
+    subst (λ cs. OnOk c.cases_cons.result (Grows (con_decl t) c.args.cons.now cs c.cases_cons.new.cons))
     (sym (cons_are t.names kind cases (sym told ∙ ap (option_map (cases_view t.names)) c.in-Some.is))) c.cases_cons.ensures
 
 pub returns-in-None : goal.returns-in-None
@@ -25,6 +25,6 @@ returns-in-None c =
     let t = tables_view c.args.self.now in
     let told : option_map (cases_view t.names) c.cases_of.result ≡ cases_of t.names c.args.kind.now =
     subst (λ n. option_map (cases_view n) c.cases_of.result ≡ cases_of n c.args.kind.now) c.names.ensures c.cases_of.ensures in
-    subst (λ cs. Grows (con_decl t) c.args.cons cs c.args.cons)
+    subst (λ cs. Grows (con_decl t) c.args.cons.now cs c.args.cons.now)
     (sym (no_cons t.names c.args.kind.now (sym told ∙ ap (option_map (cases_view t.names)) c.in-None.is)))
-    (grows_none (con_decl t) c.args.cons)
+    (grows_none (con_decl t) c.args.cons.now)

@@ -2,10 +2,11 @@ use Rattle.std.proofs.Common.{◌++◌, ◌∷◌, [], refl, ap, sym, subst, ◌
 use Rattle.type_terms.specs.Members.{member_view, written_kind}
 use Rattle.desugaring.specs.Objects as objects
 use Rattle.desugaring.specs.Tables.{ty_of}
+use Rattle.text_names.proofs.Placed.{on_ok}
 use Rattle.text_tables.specs.Seen.{tables_view}
 use Rattle.text_tables.specs.means.Rooted.{HasArgs}
 use Rattle.text_tables.proofs.MembersLaw.{does_is, query_declared}
-use Rattle.text_tables.proofs.members.Members.with_query.Goals as goal
+use Rattle.text_tables.proofs.members.Members.add_query.Goals as goal
 
 pub returns : goal.returns
 returns c = λ path at of.
@@ -15,10 +16,12 @@ returns c = λ path at of.
     let m = member_view t.names member in
     let keys = c.in_ok-keys.ensures ∙ c.as_slice-2.ensures.items in
     let gives = c.in_ok-gives.ensures ∙ ap (λ n. (member_view n member).result) c.names.ensures in
-    query_declared t path spot m c.args.kind c.in_ok-args.args c.in_ok-result.result c.args.self _ at
+    on_ok c.push.result
+    (λ pushed. query_declared t path spot m c.args.kind c.in_ok-args.args c.in_ok-result.result c.args.self.now _ at
     (ap objects.query_kind (does_is (written_kind t.names member.over) member.does) ∙ of)
     (subst (λ ks. HasArgs t ks m.args c.in_ok-args.args) keys c.in_ok-args.ensures)
     (sym (ap (ty_of t) gives) ∙ c.in_ok-result.ensures.found)
-    (c.in_ok-push.ensures.ok
-    ∙ ap (λ p. c.args.self.queries ++ record { root = spot.root; path = p; kind = c.args.kind; args = c.in_ok-args.args; result = c.in_ok-result.result } ∷ [])
-    (c.in_ok-path.ensures ∙ c.as_slice.ensures.items)) refl
+    (pushed
+    ∙ ap (λ p. c.args.self.now.queries ++ record { root = spot.root; path = p; kind = c.args.kind; args = c.in_ok-args.args; result = c.in_ok-result.result } ∷ [])
+    (c.in_ok-path.ensures ∙ c.as_slice.ensures.items)) refl)
+    c.push.ensures.ok
