@@ -13,6 +13,7 @@ ghost use Rattle.desugaring.specs.Tables.{tables_of};
 ghost use Rattle.text_names.specs.Declarations.{names_view};
 ghost use Rattle.text_names.specs.Parts.{crdt_in, roots_seen, trees_of};
 ghost use Rattle.text_tables.specs.Seen.{tables_view};
+ghost use Rattle.resolve.specs.Adds.{Adds, nothing};
 ghost use Rattle.resolve.specs.Tested.{HasTables, IsDeclaredIn, IsProgramFor, first_in};
 ghost use Rattle.resolve.specs.declared.program.TypeErr.TheVariants as err;
 
@@ -22,7 +23,7 @@ use lawful::programs_are_well_formed;
 use lawful_programs::texts_have_programs;
 use lower_exprs::{Stop, Work, are_sound};
 use reading::lower_queries;
-use rp_ast::{Ast, Decl};
+use rp_ast::{Ast, Decl, DeclForm};
 use rp_lang::{LimitName, Program};
 use rp_span::Span;
 use rp_value::{ConTable, Memory};
@@ -74,8 +75,9 @@ fn within_nodes<'a>(work: Work<'_, '_, 'a>, decls: &'a [Decl]) -> Result<Declare
     }
 }
 
-/// What the declarations of a program declare that passes no limit.
-fn within_limits<'a>(work: Work<'_, '_, 'a>, decls: &'a [Decl]) -> Result<Declared, TypeErr>
+/// What the declarations of a program declare that passes no limit. The limits are told before anything is
+/// built, since uses of queries may make much of a short text.
+fn told_first<'a>(work: Work<'_, '_, 'a>, decls: &'a [Decl]) -> Result<Declared, TypeErr>
     ensures program { (p : Prog) → IsProgramFor work.entry (decls_view decls.now) p → IfOk result (IsDeclaredIn p) }
     ensures none { (p : Prog) → IsProgramFor work.entry (decls_view decls.now) p
         → IfOk result (λ _. first_limit p ≡ None) }
@@ -94,6 +96,69 @@ fn within_limits<'a>(work: Work<'_, '_, 'a>, decls: &'a [Decl]) -> Result<Declar
     match limit_before_nodes(first, decls, &blank)? {
         Some(limit) => Err(TypeErr::Limit(limit)),
         None => within_nodes(work, decls),
+    }
+}
+
+/// What was declared, where the program passes no limit before that on nodes.
+fn unless_passed(work: Work, decls: &[Decl], made: Declared) -> Result<Declared, TypeErr>
+    ensures made { IfOk result (λ kept. kept ≡ made) }
+    ensures none { (p : Prog) → IsProgramFor work.entry (decls_view decls.now) p → Adds work.entry nothing p.invs p.procs made
+        → IfOk result (λ _. None ≡ first_in None (take 10 (limits p))) }
+    ensures limit { (p : Prog) (l : SpecLimit) → IsProgramFor work.entry (decls_view decls.now) p
+        → Adds work.entry nothing p.invs p.procs made → IsErrOf result (err.Limit l) → first_limit p ≡ Some l }
+    ensures no_rule { (rule : ℕ) (span : SpecSpan) → IsErrOf result (err.Rule rule span) → ⊥ }
+{
+    let found = limit_before_nodes(work, decls, &made)?;
+    match found {
+        Some(limit) => Err(TypeErr::Limit(limit)),
+        None => Ok(made),
+    }
+}
+
+/// What the declarations of a program declare that passes no limit, built in one walk.
+fn built_first<'a>(work: Work<'_, '_, 'a>, decls: &'a [Decl]) -> Result<Declared, TypeErr>
+    ensures program { (p : Prog) → IsProgramFor work.entry (decls_view decls.now) p → IfOk result (IsDeclaredIn p) }
+    ensures none { (p : Prog) → IsProgramFor work.entry (decls_view decls.now) p
+        → IfOk result (λ _. first_limit p ≡ None) }
+    ensures limit { (p : Prog) (l : SpecLimit) → IsProgramFor work.entry (decls_view decls.now) p
+        → IsErrOf result (err.Limit l) → first_limit p ≡ Some l }
+    ensures no_rule { (rule : ℕ) (span : SpecSpan) → IsErrOf result (err.Rule rule span) → ⊥ }
+{
+    let whole = Work {
+        building: true,
+        ..work
+    };
+    match declare_all(whole, decls) {
+        Ok(made) => unless_passed(whole, decls, made),
+        Err(Stop::Nodes) => told_first(work, decls),
+        Err(Stop::Memory) => Err(TypeErr::Memory),
+    }
+}
+
+/// Some declaration is a query. No answer hangs on it, only how often the declarations are walked.
+fn declares_query(decls: &[Decl]) -> bool {
+    for decl in decls {
+        if matches!(decl.what, DeclForm::Query(_)) {
+            return true;
+        }
+    }
+    false
+}
+
+/// What the declarations of a program declare that passes no limit.
+fn within_limits<'a>(work: Work<'_, '_, 'a>, decls: &'a [Decl]) -> Result<Declared, TypeErr>
+    ensures program { (p : Prog) → IsProgramFor work.entry (decls_view decls.now) p → IfOk result (IsDeclaredIn p) }
+    ensures none { (p : Prog) → IsProgramFor work.entry (decls_view decls.now) p
+        → IfOk result (λ _. first_limit p ≡ None) }
+    ensures limit { (p : Prog) (l : SpecLimit) → IsProgramFor work.entry (decls_view decls.now) p
+        → IsErrOf result (err.Limit l) → first_limit p ≡ Some l }
+    ensures no_rule { (rule : ℕ) (span : SpecSpan) → IsErrOf result (err.Rule rule span) → ⊥ }
+{
+    // Without queries what is built is about as large as its text.
+    if declares_query(decls) {
+        told_first(work, decls)
+    } else {
+        built_first(work, decls)
     }
 }
 

@@ -3,7 +3,7 @@ use Rattle.rp_ast.specs.View.{decls_view}
 use Rattle.rp_lang.specs.declared.limit.LimitName.{LimitName}
 use Rattle.resolve.proofs.Firsts.{last_limit}
 use Rattle.resolve.proofs.Within.{program_with, wanted_of}
-use Rattle.resolve.proofs.program.within_limits.Goals as goal
+use Rattle.resolve.proofs.program.told_first.Goals as goal
 
 pub returns-in-Some-clause-limit : goal.returns-in-Some-clause-limit
 returns-in-Some-clause-limit c p l h is =
