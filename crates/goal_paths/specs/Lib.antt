@@ -1,0 +1,4 @@
+pub mod Paths
+pub mod Limits
+pub mod Returns
+pub mod means
