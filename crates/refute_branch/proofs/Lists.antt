@@ -1,10 +1,8 @@
 -- Lists of terms, atoms and formulas, seen element by element.
-use Rattle.std.proofs.Common.{◌≡◌, ◌≤◌, ℕ, zero, suc, length, arith, List, [], ◌∷◌, map, slice_get, Option, Some, None, option_map, option_copied, Bor, refl, ap, sym, ◌∙◌}
+use Rattle.std.proofs.Common.{◌≡◌, ℕ, List, map, slice_get, Option, Some, None, option_map, option_copied, Bor, refl, ap, sym, ◌∙◌}
 use Rattle.std.proofs.lemmas.Option.{slice_get-map}
-use Rattle.rp_logic.specs.declared.term.Term.{Term}
 use Rattle.rp_logic.specs.declared.formula.Fml.{Fml}
-use Rattle.rp_logic.specs.Views.{term_view, formula_view, formulas_view, terms_view}
-use Rattle.refute_defs.specs.Parts.{nth_tm, nth_fm}
+use Rattle.rp_logic.specs.Views.{formula_view}
 
 copied : (o : Option (Bor Fml)) → option_map (λ f. formula_view f.now) o
     ≡ option_map formula_view (option_copied o)

@@ -1,6 +1,5 @@
 -- Lists of terms, atoms and formulas, seen element by element.
-use Rattle.std.proofs.Common.{◌≡◌, ◌≤◌, ℕ, zero, suc, length, arith, List, [], ◌∷◌, map, slice_get, Option, Some, None, option_map, option_copied, Bor, refl, ap, sym, ◌∙◌}
-use Rattle.std.proofs.lemmas.Option.{slice_get-map}
+use Rattle.std.proofs.Common.{◌≡◌, ◌≤◌, ℕ, zero, suc, length, arith, List, [], ◌∷◌, slice_get, Some, None, option_map, refl, ap}
 use Rattle.rp_logic.specs.declared.term.Term.{Term}
 use Rattle.rp_logic.specs.declared.formula.Fml.{Fml}
 use Rattle.rp_logic.specs.Views.{term_view, formula_view, formulas_view, terms_view}
