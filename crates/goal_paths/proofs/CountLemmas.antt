@@ -1,5 +1,5 @@
 -- The numbers of goals and of paths are those of the lists.
-use Rattle.std.proofs.Common.{◌≡◌, ℕ, suc, ◌+◌, Bool, true, false, cond, filter, List, [], ◌∷◌, ◌++◌, length, refl, ap, sym, ◌∙◌, arith}
+use Rattle.std.proofs.Common.{◌≡◌, ℕ, suc, ◌+◌, true, false, filter, List, [], ◌∷◌, ◌++◌, length, refl, ap, ◌∙◌, arith}
 use Rattle.std.proofs.lemmas.List.{length-append}
 use Rattle.std.proofs.lemmas.List.Elements.{filter-append}
 use Rattle.rp_lang.specs.Exprs.{Ex}
@@ -7,10 +7,10 @@ use Rattle.rp_lang.specs.Programs.{Inv, Proc, Prog}
 use Rattle.event_machine.specs.Code as left
 use Rattle.event_machine.specs.Code.{Code, CodeArms, no_code, also_code, proc_code}
 use Rattle.one_invocation.specs.Trails.{Way, Put, Decide, New, Operate, Take, TakeArm, Begin, End}
-use Rattle.one_invocation.specs.Goals.{Goal, ToInit, ToInvoke, ToAssert, ToCommit, ToReturn, for_each, goals_from, arm_goals, proc_goals, goals}
+use Rattle.one_invocation.specs.Goals.{Goal, ToInit, ToInvoke, ToCommit, ToReturn, for_each, goals_from, arm_goals, proc_goals, goals}
 use Rattle.goal_paths.specs.Paths.{paths, arm_paths}
 use Rattle.goal_paths.specs.Returns.{is_return}
-use Rattle.goal_paths.specs.means.Counts.{goal_count, arm_goal_count, proc_goal_count, procs_goal_count}
+use Rattle.goal_paths.specs.means.Counts.{goal_count, arm_goal_count, procs_goal_count}
 
 pub length-for_each : (goal : ℕ → Inv → Goal) (k : ℕ) (invs : List Inv) → length (for_each goal k invs) ≡ length invs
 length-for_each goal k [] = refl
