@@ -8,6 +8,7 @@ use axiom_forms::{
 };
 use formula_enc::{Place, Setting, encode_formula};
 use kept_sigs::sig_of;
+use place_axioms::push_places_are_told;
 use reshaped::reshape;
 use rp_lang::Program;
 use rp_logic::{Fml, Sig, Sort, well_sorted};
@@ -31,6 +32,7 @@ fn axioms_of(alloc: Global, p: &Program) -> Result<List<Fml>, Memory> {
     push_views_grow(alloc, &mut axioms, p, BEGINS)?;
     push_own_calls_in_line(alloc, &mut axioms)?;
     push_results_stay(alloc, &mut axioms, p)?;
+    push_places_are_told(alloc, &mut axioms, p)?;
     push_arguments_were_results(alloc, &mut axioms, p)?;
     push_markers_stand(alloc, &mut axioms, p)?;
     Ok(axioms)

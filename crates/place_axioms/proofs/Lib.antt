@@ -1,0 +1,4 @@
+pub mod BelowLaws
+pub mod Denials
+pub mod Next
+pub mod SpotViews
